@@ -11,6 +11,7 @@ use Rattle.std.specs.shelf.Lists.{leading}
 use Rattle.std.proofs.shelf.Lists.{drop-all}
 use Rattle.std.proofs.shelf.Parts.{between-to-end}
 use Rattle.std.proofs.shelf.Sums.{leading-drop-yes, leading-drop-no, leading-drop-all, leading-le-length}
+use Rattle.loads.proofs.Descent.{by-test}
 use Rattle.load_text.specs.Lines.{before, onFirst, linesOf, ended, wordsAfter, wordsOf}
 
 -- a front ends within the list
@@ -27,10 +28,6 @@ module _ (p : ℕ → Bool) (xs : List ℕ) (i : ℕ) (so-far : leading p xs ≡
 
   pub front-all : i ≤ length xs → length xs ≤ i → length xs ≡ leading p xs
   front-all low high = omega (arith, so-far, leading-drop-all p xs i high)
-
-pub by-test : {R : Type 0} (b : Bool) → (b ≡ true → R) → (b ≡ false → R) → R
-by-test true t f = t refl
-by-test false t f = f refl
 
 abbrev inLine : ℕ → Bool
 inLine b = not (eqb b 10)

@@ -13,7 +13,7 @@ use Rattle.std.proofs.shelf.Numerals.{digit-at}
 use Rattle.std.proofs.shelf.Tests.{eqb-true}
 use Rattle.std.proofs.shelf.Text.{utf8-from-ascii}
 use Rattle.load_text.specs.Entries.{WritesNumber}
-use Rattle.load_text.proofs.Cutting.{by-test}
+use Rattle.loads.proofs.Descent.{by-test}
 
 digits-ascii : (ds : List ℕ) → Digits 10 ds → Ascii ds
 digits-ascii ds h = ascii-from-reads ds (length ds) (omega arith) (λ k l. omega (arith, digit-at ds k h l))

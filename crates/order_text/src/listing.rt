@@ -1,5 +1,7 @@
 // The listing of a file.
 ghost use mathlib.Core.Path.{_≡_};
+ghost use Prim.Native.Nat.{_<_, _≤_};
+ghost use lib.ListN.{length};
 ghost use Rattle.std.specs.Of.String.{string-bytes};
 ghost use Rattle.std.specs.Vec.{made};
 ghost use Rattle.order_text.specs.Listing.{faultWords, closingOf, closing, ending, Lines, Listed};
@@ -69,19 +71,35 @@ fn closing_words(heap: Global, stop: Stop, orders: usize) -> Result<String, Allo
     }
 }
 
-// The whole listing. A file that is too long is not read, since playing it would not read it either.
-pub fn listing(heap: Global, file: &[u8]) -> Result<String, AllocError>
+// Says of a file that it is too long to be played.
+fn too_long(heap: Global, file: &[u8]) -> Result<String, AllocError>
+    requires { ⌜ 8192 < length (now file) ⌝ }
     ensures { λ r. ⌜ made r (λ s. Listed (now (file .entry)) (string-bytes s)) ⌝ }
 {
-    if file.len() > LONGEST {
-        return String::from_str(
-            heap,
-            "at 0: over 8192 bytes; playing this file would answer 13",
-        );
-    }
+    String::from_str(
+        heap,
+        "at 0: over 8192 bytes; playing this file would answer 13",
+    )
+}
+
+// The lines of the orders, and the closing line.
+fn whole(heap: Global, file: &[u8]) -> Result<String, AllocError>
+    requires { ⌜ length (now file) ≤ 8192 ⌝ }
+    ensures { λ r. ⌜ made r (λ s. Listed (now (file .entry)) (string-bytes s)) ⌝ }
+{
     let mut text = lines(heap, file)?;
     let survey = Survey::of(file);
     let last = closing_words(heap, survey.stop, survey.orders)?;
     text.push_str(last.as_str())?;
     Ok(text)
+}
+
+// The whole listing. A file that is too long is not read, since playing it would not read it either.
+pub fn listing(heap: Global, file: &[u8]) -> Result<String, AllocError>
+    ensures { λ r. ⌜ made r (λ s. Listed (now (file .entry)) (string-bytes s)) ⌝ }
+{
+    if file.len() > LONGEST {
+        return too_long(heap, file);
+    }
+    whole(heap, file)
 }
