@@ -43,6 +43,15 @@ impl TrialTable {
         ensures few { λ r. ⌜ r ≤ 16 ⌝ }
         ensures numbered { λ _. ⌜ Numbered (now (self .entry) .granted) (trialsOf (now (self .entry))) ⌝ }
     {
+        self.counted()
+    }
+
+    // The count of the places in use, and what it says of the trials.
+    fn counted(&self) -> usize
+        ensures count { λ r. ⌜ r ≡ length (trialsOf (now (self .entry))) ⌝ }
+        ensures few { λ r. ⌜ r ≤ 16 ⌝ }
+        ensures numbered { λ _. ⌜ Numbered (now (self .entry) .granted) (trialsOf (now (self .entry))) ⌝ }
+    {
         self.count
     }
 
@@ -51,36 +60,38 @@ impl TrialTable {
         ensures value { λ r. ⌜ r ≡ now (self .entry) .granted ⌝ }
         ensures spent { λ r. ⌜ r ≤ 1000000 ⌝ }
     {
-        self.granted
+        self.granted // at most MOST_GRANTED
     }
 
     // Opens a trial with the next number.
     pub fn open(&mut self, masks: [u64; 64], note: usize) -> Result<u32, TrialFault>
         ensures { λ r. ⌜ Cases r (λ t. Opens (trialsOf (now (self .entry))) (now (self .entry) .granted) (record { number = t; note = note; masks = masks }) (trialsOf (now (self .exit))) (now (self .exit) .granted)) (λ e. CannotOpen (trialsOf (now (self .entry))) (now (self .entry) .granted) e × (now (self .exit) ≡ now (self .entry))) ⌝ }
     {
-        if self.len() >= MOST_OPEN {
+        let place = self.len();
+        if place >= MOST_OPEN {
             return Err(TrialFault::TooManyOpen);
         }
         if self.granted >= MOST_GRANTED {
             return Err(TrialFault::AllGranted);
         }
         let number = self.granted + 1;
-        self.put(Saved {
+        let saved = Saved {
             number,
             note,
             masks,
-        });
+        };
+        self.put(place, saved);
         Ok(number)
     }
 
-    // Puts a trial with the next number behind the others.
-    fn put(&mut self, saved: Saved)
-        requires { ⌜ length (trialsOf (now self)) < 16 ⌝ ∗ ⌜ now self .granted < 1000000 ⌝ ∗ ⌜ saved .number ≡ now self .granted + 1 ⌝ }
+    // Puts a trial with the next number at the place behind the others.
+    fn put(&mut self, place: usize, saved: Saved)
+        requires { ⌜ place ≡ length (trialsOf (now self)) ⌝ ∗ ⌜ place < 16 ⌝ ∗ ⌜ now self .granted < 1000000 ⌝ ∗ ⌜ saved .number ≡ now self .granted + 1 ⌝ }
         ensures front { λ _. ⌜ trialsOf (now (self .exit)) ≡ trial saved ∷ trialsOf (now (self .entry)) ⌝ }
         ensures spent { λ _. ⌜ now (self .exit) .granted ≡ now (self .entry) .granted + 1 ⌝ }
     {
-        self.saved[self.count] = saved;
-        self.count += 1;
+        self.saved[place] = saved;
+        self.count = place + 1;
         self.granted += 1;
     }
 

@@ -39,6 +39,14 @@ impl<S: Store> TrialStore<S> {
         ensures count { λ r. ⌜ r ≡ length (openTrials (S·Store .cells) (now (self .entry))) ⌝ }
         ensures numbered { λ _. ⌜ Numbered (now (self .entry) .table .granted) (openTrials (S·Store .cells) (now (self .entry))) ⌝ }
     {
+        self.counted()
+    }
+
+    // The table counts the same trials.
+    fn counted(&self) -> usize
+        ensures count { λ r. ⌜ r ≡ length (openTrials (S·Store .cells) (now (self .entry))) ⌝ }
+        ensures numbered { λ _. ⌜ Numbered (now (self .entry) .table .granted) (openTrials (S·Store .cells) (now (self .entry))) ⌝ }
+    {
         self.table.len()
     }
 

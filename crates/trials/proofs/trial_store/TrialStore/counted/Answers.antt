@@ -3,7 +3,7 @@ use lib.ListN.{length, length-map}
 use Rattle.trials.specs.Trials.{trialsOf}
 use Rattle.trials.specs.TrialStores.{ofCells}
 use Rattle.trials.proofs.Ending.{numbered-map}
-use Rattle.trials.proofs.trial_store.TrialStore.trials.Needs as need
+use Rattle.trials.proofs.trial_store.TrialStore.counted.Needs as need
 
 pub returns : need.returns
 returns g c =

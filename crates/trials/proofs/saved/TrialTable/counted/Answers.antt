@@ -1,6 +1,6 @@
 use mathlib.Core.Path.{_≡_, sym}
 use Rattle.trials.proofs.Places.{count-below, numbered-below}
-use Rattle.trials.proofs.saved.TrialTable.len.Needs as need
+use Rattle.trials.proofs.saved.TrialTable.counted.Needs as need
 
 pub returns : need.returns
 returns c =

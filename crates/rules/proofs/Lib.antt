@@ -1,0 +1,4 @@
+pub mod Best
+pub mod OnePass
+pub mod Places
+pub mod Repeats
