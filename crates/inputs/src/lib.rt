@@ -1,4 +1,6 @@
 // Standard input for the programs: a bounded part of it.
+#![tactic(auto)]
+
 ghost use Rattle.std.specs.Prelude.{◌≤◌, length, IfOk};
 
 use std::io;

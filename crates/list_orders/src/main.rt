@@ -1,4 +1,6 @@
 // Lists the orders of a file in words, for whoever reads them out to a caller.
+#![tactic(auto)]
+
 use inputs::read_into;
 use order_text::listing::{LONGEST, listing};
 use std::io;

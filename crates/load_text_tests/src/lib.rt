@@ -1,4 +1,5 @@
 // Texts of loads with the line that answers each, worked out by hand. A crate of its own, so that `load_text` is not proved twice.
+#![tactic(auto)]
 
 #[cfg(test)]
 mod tests {

@@ -1,4 +1,5 @@
 // Loads weighed by hand, held against what the crate answers. A crate of its own, so that `loads` is not proved twice.
+#![tactic(auto)]
 
 #[cfg(test)]
 mod tests {

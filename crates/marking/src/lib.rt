@@ -1,4 +1,6 @@
 // The marks of two counts of ranks: what decides how a rule filters.
+#![tactic(auto)]
+
 pub mod bounds;
 pub mod deciding;
 pub mod marks;

@@ -1,4 +1,6 @@
 // Order files: bytes that ask for one call after another, and the records that answer them.
+#![tactic(auto)]
+
 mod answers;
 mod kinds;
 mod laws;

@@ -1,4 +1,6 @@
 // Byte strings with what they read as, worked out by hand from the format.
+#![tactic(auto)]
+
 #[cfg(test)]
 mod tests;
 

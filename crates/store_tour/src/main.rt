@@ -1,4 +1,6 @@
 // A short day at a trial screen, on both kinds of store: what each call answers, in words.
+#![tactic(auto)]
+
 use domains::domain::Domain;
 use std::io;
 use stores::bit_store::BitStore;

@@ -1,4 +1,6 @@
 // Stores: what keeps a grade set for each cell of a sheet.
+#![tactic(auto)]
+
 pub mod bit_store;
 pub mod bounds_store;
 pub mod copying;

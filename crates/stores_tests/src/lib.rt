@@ -1,4 +1,5 @@
 // Sets, stores and trials on examples worked out by hand. A crate of its own, so that the libraries are not proved twice.
+#![tactic(auto)]
 
 #[cfg(test)]
 mod tests {

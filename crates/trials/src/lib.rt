@@ -1,4 +1,6 @@
 // Trials over any store: try writes, then undo them or keep them.
+#![tactic(auto)]
+
 pub mod faults;
 pub mod probing;
 pub mod rehearsal;

@@ -1,4 +1,6 @@
 // Weighs two loads that standard input holds as text, and prints one line with the answer.
+#![tactic(auto)]
+
 use inputs::read_into;
 use load_text::reading::parse;
 use load_text::words::reply;

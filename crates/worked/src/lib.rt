@@ -1,4 +1,6 @@
 // Examples worked out by hand, as one table under one theorem. Each layer adds its rows.
+#![tactic(auto)]
+
 ghost use Rattle.std.specs.Prelude.{◌≡◌, length};
 ghost use Rattle.std.specs.List.{AllByRecursion as All};
 ghost use Rattle.worked.specs.Rows.{Holds};
