@@ -7,7 +7,7 @@ pub returns : goal.returns
 returns c =
     let a = c.args.low in
     let b = c.args.high in
-    let is : c.part-from.result ≡ run a b = c.part-from.ensures.value ∙ ap (λ (x : ℕ). from x a) c.full-mask.ensures.value in
+    let is : c.part_from.result ≡ run a b = c.part_from.ensures.value ∙ ap (λ (x : ℕ). from x a) c.full_mask.ensures.value in
     record {
       value = is;
       ranks = subst (λ (m : ℕ). Has m (λ k. (a ≤ k) × (k ≤ b))) (sym is) (λ k. ((in_run a b k).0, λ h. (in_run a b k).1 h.0 h.1));
