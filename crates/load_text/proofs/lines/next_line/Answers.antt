@@ -4,8 +4,8 @@ use Rattle.std.proofs.lemmas.Bool.{eqb-true, eqb-false}
 use Rattle.load_text.proofs.Cutting.{line_cut, line_last}
 use Rattle.load_text.proofs.lines.next_line.Goals as goal
 
-pub returns-then-is-empty : goal.returns-then-is-empty
-returns-then-is-empty c = nil_from_length c.args.text.now (eqb-true (length c.args.text.now) 0 (sym c.if-is-empty.ensures))
+pub returns-then-is_empty : goal.returns-then-is_empty
+returns-then-is_empty c = nil_from_length c.args.text.now (eqb-true (length c.args.text.now) 0 (sym c.if-is_empty.ensures))
 
 pub returns-in-Some : goal.returns-in-Some
 returns-in-Some c =
@@ -13,4 +13,4 @@ returns-in-Some c =
     line_cut c.args.text.now c.in-Some.cut.0.now c.in-Some.cut.1.now cut.0 cut.1 cut.2
 
 pub returns-in-None : goal.returns-in-None
-returns-in-None c = line_last c.args.text.now c.in-None.ensures (eqb-false (length c.args.text.now) 0 (sym c.if-is-empty.ensures))
+returns-in-None c = line_last c.args.text.now c.in-None.ensures (eqb-false (length c.args.text.now) 0 (sym c.if-is_empty.ensures))

@@ -18,8 +18,8 @@ returns-then-tally g c =
       agreed = c.loop-tally.invariant.1 ∙ passed_above cmp o (seen c.loop-tally.limit) c.args.left.now c.args.right.now t.grade.now t.left t.right peak;
     }
 
-pub overflow-add-agreed : goal.overflow-add-agreed
-overflow-add-agreed g c =
+pub overflow_add-agreed : goal.overflow_add-agreed
+overflow_add-agreed g c =
     let t = c.in-Some.tally in
     omega (arith, c.loop-tally.invariant.1, (passed_more g.G.Grade.cmp g.met.G.Grade.order (seen c.loop-tally.limit) c.args.left.now c.args.right.now t.grade.now t.left t.right c.in-Some.ensures c.if-tally.false).1)
 
@@ -43,7 +43,7 @@ pub returns : goal.returns
 returns g c =
     let cmp = g.G.Grade.cmp in
     let o = g.met.G.Grade.order in
-    let none = c.in-default.ensures in
+    let none = c.in_default.ensures in
     let agree = all_agree cmp o (seen c.loop-tally.limit) c.args.left.now c.args.right.now none.0 none.1 c.loop-tally.invariant.0 in
     record {
       weight = weighs cmp o c.args.left.now c.args.right.now equal agree;

@@ -4,8 +4,8 @@ use Rattle.loads.proofs.weighing.peak_below.Goals as goal
 
 pub returns-in-Some-Some : goal.returns-in-Some-Some
 returns-in-Some-Some g c =
-    peak_both g.G.Grade.cmp g.met.G.Grade.order (seen c.args.limit) c.args.left.now c.args.right.now c.in-Some-Some.l c.in-Some-Some.r c.higher-of.result
-    c.in-Some-Some.ensures c.in-Some-Some.ensures' c.higher-of.ensures
+    peak_both g.G.Grade.cmp g.met.G.Grade.order (seen c.args.limit) c.args.left.now c.args.right.now c.in-Some-Some.l c.in-Some-Some.r c.higher_of.result
+    c.in-Some-Some.ensures c.in-Some-Some.ensures' c.higher_of.ensures
 
 pub returns-in-Some-None : goal.returns-in-Some-None
 returns-in-Some-None g c =

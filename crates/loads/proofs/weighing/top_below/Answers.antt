@@ -3,7 +3,7 @@ use Rattle.loads.specs.Weighing.{seen, below, Top}
 use Rattle.loads.specs.declared.weighing.Held.{Held}
 use Rattle.loads.proofs.Descent.{one_more, top_skips, top_raised, times_le}
 use Rattle.loads.proofs.weighing.top_below.Goals as goal
-use Rattle.loads.proofs.weighing.top_below.Goals.{then-is-below, else-is-below}
+use Rattle.loads.proofs.weighing.top_below.Goals.{then-is_below, else-is_below}
 
 pub raised-requires : goal.raised-requires
 raised-requires g c =
@@ -25,14 +25,14 @@ loop-x-preserved g c =
     let i = c.loop-x.x-index in
     let x = c.x-item.result in
     let more : take (i + 1) load ≡ take i load ++ (x ∷ []) = one_more load i x c.loop-x-test.true c.x-item.is in
-    subst (λ (xs : List g.row.G.Denot). Top cmp limit xs c.if-is-below.top) (sym more)
-    (elim c.if-is-below.branch [
-      | then-is-below w ↦
-          let yes : below cmp limit x ≡ true = sym {b = below cmp limit x} w.if-is-below.ensures in
+    subst (λ (xs : List g.row.G.Denot). Top cmp limit xs c.if-is_below.top) (sym more)
+    (elim c.if-is_below.branch [
+      | then-is_below w ↦
+          let yes : below cmp limit x ≡ true = sym {b = below cmp limit x} w.if-is_below.ensures in
           subst (Top cmp limit (take i load ++ (x ∷ []))) (sym w.top-is)
           (top_raised cmp o limit (take i load) c.loop-x.top x w.raised.result.grade.now w.raised.result.count yes c.loop-x.invariant w.raised.ensures)
-      | else-is-below w ↦
-          let no : below cmp limit x ≡ false = sym {b = below cmp limit x} w.if-is-below.ensures in
+      | else-is_below w ↦
+          let no : below cmp limit x ≡ false = sym {b = below cmp limit x} w.if-is_below.ensures in
           subst (Top cmp limit (take i load ++ (x ∷ []))) (sym w.top-is)
           (top_skips cmp o limit (take i load) c.loop-x.top x no c.loop-x.invariant)
     ])

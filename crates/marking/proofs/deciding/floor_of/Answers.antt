@@ -2,26 +2,26 @@ use Rattle.std.proofs.Common.{arith}
 use Rattle.marking.proofs.Verdict.{spare, no_beta, no_gamma, short, with_sigma, without_sigma, beta_more}
 use Rattle.marking.proofs.deciding.floor_of.Goals as goal
 
-pub overflow-sub-right : goal.overflow-sub-right
-overflow-sub-right c = omega (arith, c.requires.1.1.1)
+pub overflow_sub-right : goal.overflow_sub-right
+overflow_sub-right c = omega (arith, c.requires.1.1.1)
 
 pub returns-then-right-alpha : goal.returns-then-right-alpha
 returns-then-right-alpha c =
     spare c.args.left.now c.args.right.now c.args.marks c.args.alpha c.told-left c.told-right c.requires.0 c.requires.1.0 c.requires.1.1.1
     (omega (arith, c.if-right-alpha.true))
 
-pub returns-in-default : goal.returns-in-default
-returns-in-default c =
+pub returns-in_default : goal.returns-in_default
+returns-in_default c =
     no_beta c.args.left.now c.args.right.now c.args.marks c.args.alpha c.told-left c.told-right c.requires.0 c.requires.1.0 c.requires.1.1.1
-    (omega (arith, c.if-right-alpha.false)) c.in-default.is
+    (omega (arith, c.if-right-alpha.false)) c.in_default.is
 
 pub returns-then-not-marks : goal.returns-then-not-marks
 returns-then-not-marks c =
     no_gamma c.args.left.now c.args.right.now c.args.marks c.args.alpha c.told-left c.told-right c.requires.0 c.requires.1.0 c.requires.1.1.1
     (omega (arith, c.if-right-alpha.false)) c.in-Some.beta c.in-Some.is c.if-not-marks.true
 
-pub overflow-sub-left : goal.overflow-sub-left
-overflow-sub-left c =
+pub overflow_sub-left : goal.overflow_sub-left
+overflow_sub-left c =
     omega (
       arith,
       beta_more c.args.left.now c.args.right.now c.args.marks c.args.alpha c.told-left c.told-right c.requires.0 c.requires.1.0 c.requires.1.1.1

@@ -6,8 +6,8 @@ use Rattle.order_text.proofs.words.after_first.Goals as goal
 
 pub loop-number-preserved : goal.loop-number-preserved
 loop-number-preserved c =
-    item_more (string_bytes c.args.text.now) (string_bytes c.loop-number.text) c.as-str.result.now (string_bytes c.in-ok-item.item) (string_bytes c.push-str.new.self)
-    c.args.rest.now c.loop-number.number-index (omega arith) c.loop-number.invariant c.in-ok-push-str.ensures.bytes c.as-str.ensures.value c.in-ok-item.ensures.ok
+    item_more (string_bytes c.args.text.now) (string_bytes c.loop-number.text) c.as_str.result.now (string_bytes c.in_ok-item.item) (string_bytes c.push_str.new.self)
+    c.args.rest.now c.loop-number.number-index (omega arith) c.loop-number.invariant c.in_ok-push_str.ensures.bytes c.as_str.ensures.value c.in_ok-item.ensures.ok
 
 pub returns : goal.returns
 returns c =

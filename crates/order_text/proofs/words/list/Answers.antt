@@ -4,4 +4,4 @@ use Rattle.order_text.proofs.words.list.Goals as goal
 
 pub returns : goal.returns
 returns c =
-    listed_from c.args.numbers.now (string_bytes c.after-first.new.text) (string_bytes c.in-ok-text.text) (omega (arith, ltb-false)) c.in-ok-after-first.ensures c.in-ok-text.ensures.ok
+    listed_from c.args.numbers.now (string_bytes c.after_first.new.text) (string_bytes c.in_ok-text.text) (omega (arith, ltb-false)) c.in_ok-after_first.ensures c.in_ok-text.ensures.ok

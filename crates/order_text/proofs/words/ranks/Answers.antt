@@ -2,14 +2,14 @@ use Rattle.std.proofs.Common.{◌≡◌, vec_items, ap, ◌∙◌, arith}
 use Rattle.order_text.specs.Words.{ranks_below}
 use Rattle.order_text.proofs.Making.{rank_in, rank_out}
 use Rattle.order_text.proofs.words.ranks.Goals as goal
-use Rattle.order_text.proofs.words.ranks.Goals.{then-set-rank-eq1+in-ok-push, else-set-rank-eq1}
+use Rattle.order_text.proofs.words.ranks.Goals.{then-set-rank-eq1+in_ok-push, else-set-rank-eq1}
 
 pub loop-rank-preserved : goal.loop-rank-preserved
 loop-rank-preserved c =
     elim c.if-set-rank-eq1.branch [
-      | then-set-rank-eq1+in-ok-push w ↦
+      | then-set-rank-eq1+in_ok-push w ↦
           ap vec_items w.found-is ∙
-          rank_in c.args.set c.loop-rank.rank (vec_items c.loop-rank.found) (vec_items w.push.new.self) c.loop-rank.invariant w.if-set-rank-eq1.true w.in-ok-push.ensures.items
+          rank_in c.args.set c.loop-rank.rank (vec_items c.loop-rank.found) (vec_items w.push.new.self) c.loop-rank.invariant w.if-set-rank-eq1.true w.in_ok-push.ensures.items
       | else-set-rank-eq1 w ↦
           ap vec_items w.found-is ∙ rank_out c.args.set c.loop-rank.rank (vec_items c.loop-rank.found) c.loop-rank.invariant w.if-set-rank-eq1.false
     ]

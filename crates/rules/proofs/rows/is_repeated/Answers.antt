@@ -10,6 +10,6 @@ pub returns-after-rows : goal.returns-after-rows
 returns-after-rows c =
     none (c.args.left.now ++ c.args.right.now) _ c.rows.i c.rows.invariant.0 c.rows.invariant.1 (simp length-append c.rows-test.false)
 
-pub returns-then-cell-at : goal.returns-then-cell-at
-returns-then-cell-at c =
-    (c.loop-j.j, c.rows.i, c.loop-j-test.true, simp length-append c.rows-test.true, sym c.cell-at-in-loop-j.ensures ∙ sym c.if-cell-at.true ∙ c.cell-at.ensures)
+pub returns-then-cell_at : goal.returns-then-cell_at
+returns-then-cell_at c =
+    (c.loop-j.j, c.rows.i, c.loop-j-test.true, simp length-append c.rows-test.true, sym c.cell_at-in-loop-j.ensures ∙ sym c.if-cell_at.true ∙ c.cell_at.ensures)

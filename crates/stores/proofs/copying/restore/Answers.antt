@@ -8,17 +8,17 @@ loop-cell-preserved g c =
     let m = g.S.Store in
     let s = c.args.store.now in
     let t = c.loop-cell.store in
-    let u = c.put-back.new.store in
+    let u = c.put_back.new.store in
     let i = c.loop-cell.cell in
     let saved = c.args.saved.now in
     let inv = c.loop-cell.invariant in
     let n : i < length (m.cells t) = omega (arith, c.size-size.ensures.0, inv.1) in (
-      c.put-back.ensures.width ∙ inv.0,
-      c.put-back.ensures.count ∙ inv.1,
+      c.put_back.ensures.width ∙ inv.0,
+      c.put_back.ensures.count ∙ inv.1,
       λ ok.
           let held : Holdable m.holds (m.width t) (get_or saved i 0) = subst (λ (d : ℕ). Holdable m.holds d (get_or saved i 0)) (sym inv.0) (ok i (omega (arith, n, inv.1))) in
-          set_next (m.cells t) saved (m.cells u) i n (c.put-back.ensures.same n held) (inv.2 ok),
-      g.met.S.Store.laws.then s t u inv.3 c.put-back.ensures.rest,
+          set_next (m.cells t) saved (m.cells u) i n (c.put_back.ensures.same n held) (inv.2 ok),
+      g.met.S.Store.laws.then s t u inv.3 c.put_back.ensures.rest,
     )
 
 pub returns : goal.returns

@@ -9,12 +9,12 @@ loop-call-preserved g c =
     let m = g.S.Store in
     let s = c.args.store.now in
     let t = c.loop-call.store in
-    let u = c.carry-out.new.store in
+    let u = c.carry_out.new.store in
     let call = c.call-item.result in (
       omega (arith, c.loop-call-test.true),
       ran_next m.cells m.width m.holds m.stays c.args.calls.now c.loop-call.call-index call s t u c.loop-call-test.true c.loop-call.invariant.1
-          (subst (λ (x : TrialCall). Step m.cells m.width m.holds m.stays x t u) c.call-item.is c.carry-out.ensures.step),
-      λ h. c.carry-out.ensures.sound (c.loop-call.invariant.2 h),
+          (subst (λ (x : TrialCall). Step m.cells m.width m.holds m.stays x t u) c.call-item.is c.carry_out.ensures.step),
+      λ h. c.carry_out.ensures.sound (c.loop-call.invariant.2 h),
     )
 
 pub returns : goal.returns

@@ -18,13 +18,13 @@ loop-next-smaller c =
 pub loop-next-preserved : goal.loop-next-preserved
 loop-next-preserved c = let s = step c in (c.in-Ok.ensures.file ∙ c.loop-next.invariant.0, s.0, s.2)
 
-pub returns-in-default : goal.returns-in-default
-returns-in-default c =
+pub returns-in_default : goal.returns-in_default
+returns-in_default c =
     at_end c.args.file.now c.loop-next.reader.file.now c.loop-next.reader.place c.place-place.result c.loop-next.orders
-    (bytes_of c.args.file.now (λ i. omega (arith, c.type-inv.file i))) c.loop-next.invariant.0
-    (ap (λ (v : Option Order). told (Ok v)) (sym c.in-default.is) ∙ c.in-Ok.ensures.order) (c.place-place.ensures ∙ c.in-Ok.ensures.place) c.loop-next.invariant.2
+    (bytes_of c.args.file.now (λ i. omega (arith, c.type_inv.file i))) c.loop-next.invariant.0
+    (ap (λ (v : Option Order). told (Ok v)) (sym c.in_default.is) ∙ c.in-Ok.ensures.order) (c.place-place.ensures ∙ c.in-Ok.ensures.place) c.loop-next.invariant.2
 
 pub returns-in-Err : goal.returns-in-Err
 returns-in-Err c =
     at_fault c.args.file.now c.loop-next.reader.file.now c.loop-next.reader.place c.loop-next.orders (number_of c.in-Err.fault) (place_of c.in-Err.fault)
-    (bytes_of c.args.file.now (λ i. omega (arith, c.type-inv.file i))) c.loop-next.invariant.0 c.in-Err.ensures.order c.loop-next.invariant.2
+    (bytes_of c.args.file.now (λ i. omega (arith, c.type_inv.file i))) c.loop-next.invariant.0 c.in-Err.ensures.order c.loop-next.invariant.2

@@ -3,8 +3,8 @@ use Rattle.std.proofs.lemmas.List.{length-set}
 use Rattle.stores.proofs.Cells.{each_set, take_set_in}
 use Rattle.stores.proofs.bit_store.BitStore.put.Goals as goal
 
-pub invariant-of-self : goal.invariant-of-self
-invariant-of-self c =
+pub invariant_of-self : goal.invariant_of-self
+invariant_of-self c =
     let s = c.args.self.now in
     let i : c.args.cell < length s.masks = omega arith in (
       length-set s.masks c.args.cell c.args.mask ∙ s.long,

@@ -3,8 +3,8 @@ use Rattle.std.proofs.lemmas.List.{get_or-replicate, length-replicate, take-repl
 use Rattle.std.proofs.lemmas.Nat.{pow_pos}
 use Rattle.stores.proofs.bit_store.BitStoreStore.lay_out.Goals as goal
 
-pub invariant-of-self : goal.invariant-of-self
-invariant-of-self c =
+pub invariant_of-self : goal.invariant_of-self
+invariant_of-self c =
     let d = c.args.d in
     let m : c.mask.result ≡ 2 ^ d - 1 = c.mask.ensures.value ∙ c.in-Some.ensures.value in
     let e : (k : ℕ) → k < c.args.n → get_or c.filled.result k 0 ≡ c.mask.result = λ k h.

@@ -7,8 +7,8 @@ use Rattle.stores.specs.Bounds.{runs}
 use Rattle.stores.specs.Runs.{runs_length, runs_set, pairs_set}
 use Rattle.stores.proofs.bounds_store.BoundsStore.put.Goals as goal
 
-pub invariant-of-self : goal.invariant-of-self
-invariant-of-self c =
+pub invariant_of-self : goal.invariant_of-self
+invariant_of-self c =
     let s = c.args.self.now in
     let a = c.lowest.result in
     let b = c.highest.result in

@@ -4,8 +4,8 @@ use Rattle.stores.specs.Bounds.{runs}
 use Rattle.stores.specs.Runs.{runs_full, runs_length}
 use Rattle.stores.proofs.bounds_store.BoundsStoreStore.lay_out.Goals as goal
 
-pub invariant-of-self : goal.invariant-of-self
-invariant-of-self c =
+pub invariant_of-self : goal.invariant_of-self
+invariant_of-self c =
     let d = c.args.d in
     let lo : (k : ℕ) → k < c.args.n → get_or c.all.result k 0 ≡ 0 = λ k h.
     let l : k < 64 = omega arith in ap (λ xs. get_or xs k 0) c.all.ensures ∙ get_or-replicate 64 k 0 0 l in

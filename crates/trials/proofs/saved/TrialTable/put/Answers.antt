@@ -4,8 +4,8 @@ use Rattle.trials.specs.Trials.{Trial, trial, trials_below}
 use Rattle.trials.proofs.Places.{count_below, below_put, some_put, fresh_put, rising_put}
 use Rattle.trials.proofs.saved.TrialTable.put.Goals as goal
 
-pub invariant-of-self : goal.invariant-of-self
-invariant-of-self c =
+pub invariant_of-self : goal.invariant_of-self
+invariant_of-self c =
     let t = c.args.self.now in
     let x = c.args.saved in
     let n = c.args.place in

@@ -5,15 +5,15 @@ use Rattle.trials.specs.TrialStores.{of_cells}
 use Rattle.trials.specs.Layers.{cannot_end_map, kept_whole, kept_sound, kept_apart, end_ends, end_sound, end_can, end_apart}
 use Rattle.trials.proofs.trial_store.TrialStore.take_back.Goals as goal
 
-pub returns-in-err-saved : goal.returns-in-err-saved
-returns-in-err-saved g c =
+pub returns-in_err-saved : goal.returns-in_err-saved
+returns-in_err-saved g c =
     let m = g.S.Store in
     let s = c.args.self.now in
     let u = c.end.new.self in
-    let p = err_from_is_err_and c.from-residual.result c.from-residual.ensures.1 in
-    let h = c.in-err-saved.ensures in
+    let p = err_from_is_err_and c.from_residual.result c.from_residual.ensures.1 in
+    let h = c.in_err-saved.ensures in
     record {
-      outcome = rw (p.1, p.2) (cannot_end_map (length (m.cells s.below)) c.args.number (trials_of s.table) c.in-err-saved.field-0.0 h.0, kept_whole m.cells m.width m.holds s.below s.table u h.1);
+      outcome = rw (p.1, p.2) (cannot_end_map (length (m.cells s.below)) c.args.number (trials_of s.table) c.in_err-saved.field-0.0 h.0, kept_whole m.cells m.width m.holds s.below s.table u h.1);
       sound = kept_sound m.cells m.width m.holds s.below s.table u h.1;
       apart = kept_apart m.cells m.width m.holds s.below s.table u h.1;
     }
@@ -26,10 +26,10 @@ returns g c =
     let t = s.table in
     let u = c.end.new.self in
     let b' = c.restore.new.store in
-    let x = c.in-ok-saved.saved in
+    let x = c.in_ok-saved.saved in
     let n = c.args.number in
-    let e = c.in-ok-saved.ensures.0 in
-    let q = c.in-ok-saved.ensures.1 in
+    let e = c.in_ok-saved.ensures.0 in
+    let q = c.in_ok-saved.ensures.1 in
     let count = c.restore.ensures.count in
     let scale = c.restore.ensures.width in
     record {
