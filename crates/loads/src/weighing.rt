@@ -30,7 +30,7 @@ pub struct Tally<'a, G> {
 }
 
 fn is_below<G: Grade>(x: &G, limit: Option<&G>) -> bool
-    ensures { result ≡ below cmp (seen limit.entry) x.now }
+    ensures { result ≡ below G.cmp (seen limit.entry) x.now }
 {
     match limit {
         None => true,
@@ -41,7 +41,7 @@ fn is_below<G: Grade>(x: &G, limit: Option<&G>) -> bool
 // The top so far with one more member `x`: a higher one takes its place.
 fn raised<'a, G: Grade>(top: Option<Held<'a, G>>, x: &'a G) -> Held<'a, G>
     requires { times (top) < 2 ^ 64 }
-    ensures { Raised cmp top.entry x.now result.grade.now result.count }
+    ensures { Raised G.cmp top.entry x.now result.grade.now result.count }
 {
     let Some(held) = top else {
         return Held { grade: x, count: 1 };
@@ -58,7 +58,7 @@ fn raised<'a, G: Grade>(top: Option<Held<'a, G>>, x: &'a G) -> Held<'a, G>
 
 // The highest grade below the limit that a member of the load has.
 fn top_below<'a, G: Grade>(limit: Option<&G>, load: &'a [G]) -> Option<Held<'a, G>>
-    ensures { Top cmp (seen limit.entry) load.now result }
+    ensures { Top G.cmp (seen limit.entry) load.now result }
 {
     let mut top: Option<Held<'a, G>> = None;
     for x in load {
@@ -71,7 +71,7 @@ fn top_below<'a, G: Grade>(limit: Option<&G>, load: &'a [G]) -> Option<Held<'a, 
 
 // The higher of two tops of two loads, with how many members of either load have it.
 fn higher_of<'a, G: Grade>(left: Held<'a, G>, right: Held<'a, G>) -> Tally<'a, G>
-    ensures { HigherOf cmp left.entry right.entry result }
+    ensures { HigherOf G.cmp left.entry right.entry result }
 {
     match left.grade.compare(right.grade) {
         Standing::Lower => Tally {
@@ -98,7 +98,7 @@ fn peak_below<'a, G: Grade>(
     left: &'a [G],
     right: &'a [G],
 ) -> Option<Tally<'a, G>>
-    ensures { Peak cmp (seen limit.entry) left.now right.now result }
+    ensures { Peak G.cmp (seen limit.entry) left.now right.now result }
 {
     match (top_below(limit, left), top_below(limit, right)) {
         (None, None) => None,
@@ -143,9 +143,9 @@ pub struct Comparison<'a, G> {
 // Goes down the grades of two loads from the highest, with one pass over each load for a grade, to the first of which they
 // hold different numbers: `agreed` + 1 passes in all.
 pub fn compare_loads<'a, G: Grade>(left: &'a [G], right: &'a [G]) -> Comparison<'a, G>
-    ensures weight { Weighs cmp left.now right.now result.weight }
-    ensures decided { Decided cmp left.now right.now result.decided }
-    ensures agreed { result.agreed ≡ distinct cmp (above cmp result.decided) left.now }
+    ensures weight { Weighs G.cmp left.now right.now result.weight }
+    ensures decided { Decided G.cmp left.now right.now result.decided }
+    ensures agreed { result.agreed ≡ distinct G.cmp (above G.cmp result.decided) left.now }
 {
     let mut limit: Option<&'a G> = None;
     let mut agreed: usize = 0;
@@ -170,14 +170,14 @@ pub fn compare_loads<'a, G: Grade>(left: &'a [G], right: &'a [G]) -> Comparison<
 // What the left load is against the right: compared at the highest grade of which the two hold different numbers, the one
 // that holds fewer is the lighter; without such a grade they are equal.
 pub fn weigh<G: Grade>(left: &[G], right: &[G]) -> Weight
-    ensures { Weighs cmp left.now right.now result }
+    ensures { Weighs G.cmp left.now right.now result }
 {
     compare_loads(left, right).weight
 }
 
 // Whether the left load is lighter than the right or equal to it.
 pub fn not_heavier<G: Grade>(left: &[G], right: &[G]) -> bool
-    ensures { MatchBool result (NotHeavier cmp left.now right.now) (NotHeavier cmp left.now right.now → ⊥) }
+    ensures { MatchBool result (NotHeavier G.cmp left.now right.now) (NotHeavier G.cmp left.now right.now → ⊥) }
 {
     match weigh(left, right) {
         Weight::Lighter | Weight::Equal => true,
@@ -187,7 +187,7 @@ pub fn not_heavier<G: Grade>(left: &[G], right: &[G]) -> bool
 
 // What a load is against what it was before one member `old` was replaced by `new`: only the two grades matter.
 fn weigh_replaced<G: Grade>(new: &G, old: &G) -> Weight
-    ensures { Replaced cmp new.now old.now result }
+    ensures { Replaced G.cmp new.now old.now result }
 {
     match new.compare(old) {
         Standing::Lower => Weight::Lighter,
@@ -205,7 +205,7 @@ pub struct Exchanged<G> {
 
 // Puts `new` in the place of the member at `at`. The new grade comes back where there is no such member.
 pub fn exchange<G: Grade>(load: &mut [G], at: usize, new: G) -> Result<Exchanged<G>, G>
-    ensures { MatchResult result (λ x. Exchange cmp load.old at new load.new x.old x.weight) (λ back. NoMember load.old at new load.new back) }
+    ensures { MatchResult result (λ x. Exchange G.cmp load.old at new load.new x.old x.weight) (λ back. NoMember load.old at new load.new back) }
 {
     if at >= load.len() {
         return Err(new);
