@@ -10,7 +10,12 @@ invariant_of-self c =
     let e : (k : ℕ) → k < c.args.n → get_or c.filled.result k 0 ≡ c.mask.result = λ k h.
     let l : k < 64 = omega arith in
     ap (λ xs. get_or xs k 0) c.filled.ensures ∙ get_or-replicate 64 k c.mask.result 0 l in
-    (ap length c.filled.ensures ∙ length-replicate 64 c.mask.result, (omega arith, (c.in-Some.ensures.taken.1, ((λ k h. (omega (arith, e k h), omega (arith, e k h, m, pow_pos d))), tt))))
+    record {
+      long = ap length c.filled.ensures ∙ length-replicate 64 c.mask.result;
+      few = omega arith;
+      narrow = c.in-Some.ensures.taken.1;
+      each = λ k h. (omega (arith, e k h), omega (arith, e k h, m, pow_pos d));
+    }
 
 pub returns : goal.returns
 returns c = record {

@@ -14,22 +14,15 @@ invariant_of-self c =
     let b = c.highest.result in
     let i : c.args.cell < length s.lows = omega (arith, s.lows_long) in
     let j : c.args.cell < length s.highs = omega (arith, s.highs_long) in
-    let ab : a ≤ b = elim (cases_lt b a) [ inl l ↦ absurd (c.lowest.ensures.least b (l, c.highest.ensures.within)) | inr l ↦ l ] in (
-      length-set s.lows c.args.cell a ∙ s.lows_long,
-      (
-        length-set s.highs c.args.cell b ∙ s.highs_long,
-        (
-          s.few,
-          (
-            s.narrow,
-            (
-              runs_length s.cells (set s.lows c.args.cell a) (set s.highs c.args.cell b),
-              (pairs_set (λ x y. (x ≤ y) × (y < s.width)) s.lows s.highs s.cells c.args.cell a b i j s.each (ab, in_below s.width c.args.part.mask b c.requires.1.0 c.highest.ensures.within), tt),
-            ),
-          ),
-        ),
-      ),
-    )
+    let ab : a ≤ b = elim (cases_lt b a) [ inl l ↦ absurd (c.lowest.ensures.least b (l, c.highest.ensures.within)) | inr l ↦ l ] in
+    record {
+      lows_long = length-set s.lows c.args.cell a ∙ s.lows_long;
+      highs_long = length-set s.highs c.args.cell b ∙ s.highs_long;
+      few = s.few;
+      narrow = s.narrow;
+      count = runs_length s.cells (set s.lows c.args.cell a) (set s.highs c.args.cell b);
+      each = pairs_set (λ x y. (x ≤ y) × (y < s.width)) s.lows s.highs s.cells c.args.cell a b i j s.each (ab, in_below s.width c.args.part.mask b c.requires.1.0 c.highest.ensures.within);
+    }
 
 pub returns : goal.returns
 returns c =

@@ -10,22 +10,15 @@ invariant_of-self c =
     let lo : (k : ℕ) → k < c.args.n → get_or c.all.result k 0 ≡ 0 = λ k h.
     let l : k < 64 = omega arith in ap (λ xs. get_or xs k 0) c.all.ensures ∙ get_or-replicate 64 k 0 0 l in
     let hi : (k : ℕ) → k < c.args.n → get_or c.all-2.result k 0 ≡ d - 1 = λ k h.
-    let l : k < 64 = omega arith in ap (λ xs. get_or xs k 0) c.all-2.ensures ∙ get_or-replicate 64 k (d - 1) 0 l in (
-      ap length c.all.ensures,
-      (
-        ap length c.all-2.ensures ∙ length-replicate 64 (d - 1),
-        (
-          omega arith,
-          (
-            omega arith,
-            (
-              runs_length c.args.n c.all.result c.all-2.result,
-              ((λ k h. (omega (arith, lo k h), omega (arith, hi k h))), tt),
-            ),
-          ),
-        ),
-      ),
-    )
+    let l : k < 64 = omega arith in ap (λ xs. get_or xs k 0) c.all-2.ensures ∙ get_or-replicate 64 k (d - 1) 0 l in
+    record {
+      lows_long = ap length c.all.ensures;
+      highs_long = ap length c.all-2.ensures ∙ length-replicate 64 (d - 1);
+      few = omega arith;
+      narrow = omega arith;
+      count = runs_length c.args.n c.all.result c.all-2.result;
+      each = λ k h. (omega (arith, lo k h), omega (arith, hi k h));
+    }
 
 pub returns : goal.returns
 returns c = record {
