@@ -14,7 +14,7 @@ pub trait Filter {
         left: &[u8],
         right: &[u8],
     ) -> Result<usize, FilterFault>
-        ensures outcome { MatchResult result (λ went. Filtered (S.Store.cells store.old) (S.Store.cells store.new) (rule left.now right.now) went) (λ e. Unfiltered (S.Store.cells store.old) (rule left.now right.now) e × (store.new ≡ store.old)) }
-        ensures width { S.Store.width store.new ≡ S.Store.width store.old }
-        ensures rest { S.Store.stays store.old store.new };
+        ensures outcome { MatchResult result (λ went. Filtered (S.cells store.old) (S.cells store.new) (rule left.now right.now) went) (λ e. Unfiltered (S.cells store.old) (rule left.now right.now) e × (store.new ≡ store.old)) }
+        ensures width { S.width store.new ≡ S.width store.old }
+        ensures rest { S.stays store.old store.new };
 }

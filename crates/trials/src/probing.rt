@@ -11,9 +11,9 @@ use stores::store::Store;
 
 // Keeps the part of a cell up to a rank, and answers whether there is such a part.
 pub fn cap<S: Store>(store: &mut S, cell: usize, rank: usize) -> bool
-    ensures outcome { MatchBool result (Capped (cells store.old) cell rank (cells store.new)) (CannotCap (cells store.old) cell rank × (store.new ≡ store.old)) }
-    ensures width { width store.new ≡ width store.old }
-    ensures rest { stays store.old store.new }
+    ensures outcome { MatchBool result (Capped (S.cells store.old) cell rank (S.cells store.new)) (CannotCap (S.cells store.old) cell rank × (store.new ≡ store.old)) }
+    ensures width { S.width store.new ≡ S.width store.old }
+    ensures rest { S.stays store.old store.new }
 {
     let Some(part) = store.read(cell) else {
         return false;
@@ -30,9 +30,9 @@ pub fn probe<S: Store>(
     cell: usize,
     rank: usize,
 ) -> Result<bool, TrialFault>
-    ensures outcome { MatchResult result (λ some. MatchBool some (CanCap (S.Store.cells store.old.below) cell rank) (CannotCap (S.Store.cells store.old.below) cell rank) × (store.new.table.granted ≡ store.old.table.granted + 1)) (λ e. CannotOpen (open_trials S.Store.cells store.old) store.old.table.granted e × (store.new ≡ store.old)) }
-    ensures back { Back S.Store.cells S.Store.width S.Store.holds S.Store.stays store.old store.new }
-    ensures sound { Sound S.Store.cells S.Store.width S.Store.holds store.old → Sound S.Store.cells S.Store.width S.Store.holds store.new }
+    ensures outcome { MatchResult result (λ some. MatchBool some (CanCap (S.cells store.old.below) cell rank) (CannotCap (S.cells store.old.below) cell rank) × (store.new.table.granted ≡ store.old.table.granted + 1)) (λ e. CannotOpen (open_trials S.cells store.old) store.old.table.granted e × (store.new ≡ store.old)) }
+    ensures back { Back S.cells S.width S.holds S.stays store.old store.new }
+    ensures sound { Sound S.cells S.width S.holds store.old → Sound S.cells S.width S.holds store.new }
 {
     cap_in_trial(store, cell, rank)
 }
@@ -43,9 +43,9 @@ fn cap_in_trial<S: Store>(
     cell: usize,
     rank: usize,
 ) -> Result<bool, TrialFault>
-    ensures outcome { MatchResult result (λ some. MatchBool some (CanCap (S.Store.cells store.old.below) cell rank) (CannotCap (S.Store.cells store.old.below) cell rank) × (store.new.table.granted ≡ store.old.table.granted + 1)) (λ e. CannotOpen (open_trials S.Store.cells store.old) store.old.table.granted e × (store.new ≡ store.old)) }
-    ensures back { Back S.Store.cells S.Store.width S.Store.holds S.Store.stays store.old store.new }
-    ensures sound { Sound S.Store.cells S.Store.width S.Store.holds store.old → Sound S.Store.cells S.Store.width S.Store.holds store.new }
+    ensures outcome { MatchResult result (λ some. MatchBool some (CanCap (S.cells store.old.below) cell rank) (CannotCap (S.cells store.old.below) cell rank) × (store.new.table.granted ≡ store.old.table.granted + 1)) (λ e. CannotOpen (open_trials S.cells store.old) store.old.table.granted e × (store.new ≡ store.old)) }
+    ensures back { Back S.cells S.width S.holds S.stays store.old store.new }
+    ensures sound { Sound S.cells S.width S.holds store.old → Sound S.cells S.width S.holds store.new }
 {
     let number = store.open()?;
     let some = cap(store, cell, rank);

@@ -21,8 +21,8 @@ pub enum TrialCall {
 
 // Makes a call, whatever it answers.
 pub fn carry_out<S: Store>(store: &mut TrialStore<S>, call: TrialCall)
-    ensures step { Step S.Store.cells S.Store.width S.Store.holds S.Store.stays call store.old store.new }
-    ensures sound { Sound S.Store.cells S.Store.width S.Store.holds store.old → Sound S.Store.cells S.Store.width S.Store.holds store.new }
+    ensures step { Step S.cells S.width S.holds S.stays call store.old store.new }
+    ensures sound { Sound S.cells S.width S.holds store.old → Sound S.cells S.width S.holds store.new }
 {
     match call {
         TrialCall::Write { cell, part } => {
@@ -42,8 +42,8 @@ pub fn carry_out<S: Store>(store: &mut TrialStore<S>, call: TrialCall)
 
 // Makes the calls, one after another.
 fn carry_out_all<S: Store>(store: &mut TrialStore<S>, calls: &[TrialCall])
-    ensures ran { Ran S.Store.cells S.Store.width S.Store.holds S.Store.stays calls.now store.old store.new }
-    ensures sound { Sound S.Store.cells S.Store.width S.Store.holds store.old → Sound S.Store.cells S.Store.width S.Store.holds store.new }
+    ensures ran { Ran S.cells S.width S.holds S.stays calls.now store.old store.new }
+    ensures sound { Sound S.cells S.width S.holds store.old → Sound S.cells S.width S.holds store.new }
 {
     for call in calls {
         carry_out(store, *call);
@@ -52,9 +52,9 @@ fn carry_out_all<S: Store>(store: &mut TrialStore<S>, calls: &[TrialCall])
 
 // Opens a trial, makes the calls, and answers the trial's number. Whatever the calls were, to undo that number takes the store back.
 fn try_calls<S: Store>(store: &mut TrialStore<S>, calls: &[TrialCall]) -> Result<u32, TrialFault>
-    ensures outcome { MatchResult result (λ number. Tried S.Store.cells S.Store.width S.Store.holds S.Store.stays calls.now number store.old store.new) (λ e. CannotOpen (open_trials S.Store.cells store.old) store.old.table.granted e × (store.new ≡ store.old)) }
-    ensures back { IfOk result (λ number. (t : TrialStore _) → Undone S.Store.cells S.Store.width S.Store.holds S.Store.stays number store.new t → Back S.Store.cells S.Store.width S.Store.holds S.Store.stays store.old t) }
-    ensures sound { Sound S.Store.cells S.Store.width S.Store.holds store.old → Sound S.Store.cells S.Store.width S.Store.holds store.new }
+    ensures outcome { MatchResult result (λ number. Tried S.cells S.width S.holds S.stays calls.now number store.old store.new) (λ e. CannotOpen (open_trials S.cells store.old) store.old.table.granted e × (store.new ≡ store.old)) }
+    ensures back { IfOk result (λ number. (t : TrialStore _) → Undone S.cells S.width S.holds S.stays number store.new t → Back S.cells S.width S.holds S.stays store.old t) }
+    ensures sound { Sound S.cells S.width S.holds store.old → Sound S.cells S.width S.holds store.new }
 {
     let number = store.open()?;
     carry_out_all(store, calls);
@@ -63,9 +63,9 @@ fn try_calls<S: Store>(store: &mut TrialStore<S>, calls: &[TrialCall]) -> Result
 
 // Opens a trial, makes the calls, and undoes that trial.
 fn try_and_undo<S: Store>(store: &mut TrialStore<S>, calls: &[TrialCall]) -> Result<(), TrialFault>
-    ensures outcome { MatchResult result (λ _. Rehearsed S.Store.cells S.Store.width S.Store.holds S.Store.stays calls.now store.old store.new) (λ e. NotRehearsed S.Store.cells S.Store.width S.Store.holds S.Store.stays calls.now store.old store.new e) }
-    ensures back { OnOk result (Back S.Store.cells S.Store.width S.Store.holds S.Store.stays store.old store.new) }
-    ensures sound { Sound S.Store.cells S.Store.width S.Store.holds store.old → Sound S.Store.cells S.Store.width S.Store.holds store.new }
+    ensures outcome { MatchResult result (λ _. Rehearsed S.cells S.width S.holds S.stays calls.now store.old store.new) (λ e. NotRehearsed S.cells S.width S.holds S.stays calls.now store.old store.new e) }
+    ensures back { OnOk result (Back S.cells S.width S.holds S.stays store.old store.new) }
+    ensures sound { Sound S.cells S.width S.holds store.old → Sound S.cells S.width S.holds store.new }
 {
     let number = try_calls(store, calls)?;
     store.undo(number)?;
@@ -78,9 +78,9 @@ pub fn rehearse<S: Store>(
     store: &mut TrialStore<S>,
     calls: &[TrialCall],
 ) -> Result<usize, TrialFault>
-    ensures outcome { MatchResult result (λ left. Rehearsed S.Store.cells S.Store.width S.Store.holds S.Store.stays calls.now store.old store.new × (left ≡ length (open_trials S.Store.cells store.new))) (λ e. NotRehearsed S.Store.cells S.Store.width S.Store.holds S.Store.stays calls.now store.old store.new e) }
-    ensures back { OnOk result (Back S.Store.cells S.Store.width S.Store.holds S.Store.stays store.old store.new) }
-    ensures sound { Sound S.Store.cells S.Store.width S.Store.holds store.old → Sound S.Store.cells S.Store.width S.Store.holds store.new }
+    ensures outcome { MatchResult result (λ left. Rehearsed S.cells S.width S.holds S.stays calls.now store.old store.new × (left ≡ length (open_trials S.cells store.new))) (λ e. NotRehearsed S.cells S.width S.holds S.stays calls.now store.old store.new e) }
+    ensures back { OnOk result (Back S.cells S.width S.holds S.stays store.old store.new) }
+    ensures sound { Sound S.cells S.width S.holds store.old → Sound S.cells S.width S.holds store.new }
 {
     try_and_undo(store, calls)?;
     Ok(store.trials())

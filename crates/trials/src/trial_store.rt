@@ -21,8 +21,8 @@ pub struct TrialStore<S> {
 impl<S: Store> TrialStore<S> {
     pub fn new(below: S) -> TrialStore<S>
         ensures below { result.below ≡ below }
-        ensures trials { (open_trials S.Store.cells result ≡ []) × (result.table.granted ≡ 0) }
-        ensures sound { Sound S.Store.cells S.Store.width S.Store.holds result }
+        ensures trials { (open_trials S.cells result ≡ []) × (result.table.granted ≡ 0) }
+        ensures sound { Sound S.cells S.width S.holds result }
     {
         TrialStore {
             below,
@@ -32,25 +32,25 @@ impl<S: Store> TrialStore<S> {
 
     // How many trials are open.
     pub fn trials(&self) -> usize
-        ensures count { result ≡ length (open_trials S.Store.cells self.now) }
-        ensures numbered { Numbered self.now.table.granted (open_trials S.Store.cells self.now) }
+        ensures count { result ≡ length (open_trials S.cells self.now) }
+        ensures numbered { Numbered self.now.table.granted (open_trials S.cells self.now) }
     {
         self.counted()
     }
 
     // The table counts the same trials.
     fn counted(&self) -> usize
-        ensures count { result ≡ length (open_trials S.Store.cells self.now) }
-        ensures numbered { Numbered self.now.table.granted (open_trials S.Store.cells self.now) }
+        ensures count { result ≡ length (open_trials S.cells self.now) }
+        ensures numbered { Numbered self.now.table.granted (open_trials S.cells self.now) }
     {
         self.table.len()
     }
 
     // Opens a trial, and answers its number.
     pub fn open(&mut self) -> Result<u32, TrialFault>
-        ensures outcome { OpenAnswers S.Store.cells self.old self.new result }
-        ensures sound { Sound S.Store.cells S.Store.width S.Store.holds self.old → Sound S.Store.cells S.Store.width S.Store.holds self.new }
-        ensures apart { TrialsApart S.Store.cells self.old self.new }
+        ensures outcome { OpenAnswers S.cells self.old self.new result }
+        ensures sound { Sound S.cells S.width S.holds self.old → Sound S.cells S.width S.holds self.new }
+        ensures apart { TrialsApart S.cells self.old self.new }
     {
         let masks = snapshot(&self.below);
         self.begin(masks)
@@ -58,10 +58,10 @@ impl<S: Store> TrialStore<S> {
 
     // Opens a trial for which the present masks are saved.
     fn begin(&mut self, masks: [u64; 64]) -> Result<u32, TrialFault>
-        requires { (take (length (S.Store.cells self.old.below)) masks ≡ S.Store.cells self.old.below) × (Savable S.Store.holds (S.Store.width self.old.below) (length (S.Store.cells self.old.below)) masks) }
-        ensures outcome { OpenAnswers S.Store.cells self.old self.new result }
-        ensures sound { Sound S.Store.cells S.Store.width S.Store.holds self.old → Sound S.Store.cells S.Store.width S.Store.holds self.new }
-        ensures apart { TrialsApart S.Store.cells self.old self.new }
+        requires { (take (length (S.cells self.old.below)) masks ≡ S.cells self.old.below) × (Savable S.holds (S.width self.old.below) (length (S.cells self.old.below)) masks) }
+        ensures outcome { OpenAnswers S.cells self.old self.new result }
+        ensures sound { Sound S.cells S.width S.holds self.old → Sound S.cells S.width S.holds self.new }
+        ensures apart { TrialsApart S.cells self.old self.new }
     {
         self.table.open(masks, 0)
     }
@@ -69,18 +69,18 @@ impl<S: Store> TrialStore<S> {
     // Gives each cell the set that it had when the trial was opened, ends that trial and all newer ones, and answers how many
     // remain open.
     pub fn undo(&mut self, number: u32) -> Result<usize, TrialFault>
-        ensures outcome { UndoAnswers S.Store.cells S.Store.width S.Store.holds S.Store.stays number self.old self.new result }
-        ensures sound { Sound S.Store.cells S.Store.width S.Store.holds self.old → Sound S.Store.cells S.Store.width S.Store.holds self.new }
-        ensures apart { TrialsApart S.Store.cells self.old self.new }
+        ensures outcome { UndoAnswers S.cells S.width S.holds S.stays number self.old self.new result }
+        ensures sound { Sound S.cells S.width S.holds self.old → Sound S.cells S.width S.holds self.new }
+        ensures apart { TrialsApart S.cells self.old self.new }
     {
         self.take_back(number)?;
         Ok(self.trials())
     }
 
     fn take_back(&mut self, number: u32) -> Result<(), TrialFault>
-        ensures outcome { MatchResult result (λ _. Undone S.Store.cells S.Store.width S.Store.holds S.Store.stays number self.old self.new) (λ e. CannotEnd number (open_trials S.Store.cells self.old) e × (self.new ≡ self.old)) }
-        ensures sound { Sound S.Store.cells S.Store.width S.Store.holds self.old → Sound S.Store.cells S.Store.width S.Store.holds self.new }
-        ensures apart { TrialsApart S.Store.cells self.old self.new }
+        ensures outcome { MatchResult result (λ _. Undone S.cells S.width S.holds S.stays number self.old self.new) (λ e. CannotEnd number (open_trials S.cells self.old) e × (self.new ≡ self.old)) }
+        ensures sound { Sound S.cells S.width S.holds self.old → Sound S.cells S.width S.holds self.new }
+        ensures apart { TrialsApart S.cells self.old self.new }
     {
         let saved = self.table.end(number)?;
         restore(&mut self.below, &saved.masks);
@@ -89,18 +89,18 @@ impl<S: Store> TrialStore<S> {
 
     // Leaves each cell as it is, ends the same trials as `undo`, and answers how many remain open.
     pub fn keep(&mut self, number: u32) -> Result<usize, TrialFault>
-        ensures outcome { KeepAnswers S.Store.cells number self.old self.new result }
-        ensures sound { Sound S.Store.cells S.Store.width S.Store.holds self.old → Sound S.Store.cells S.Store.width S.Store.holds self.new }
-        ensures apart { TrialsApart S.Store.cells self.old self.new }
+        ensures outcome { KeepAnswers S.cells number self.old self.new result }
+        ensures sound { Sound S.cells S.width S.holds self.old → Sound S.cells S.width S.holds self.new }
+        ensures apart { TrialsApart S.cells self.old self.new }
     {
         self.let_stand(number)?;
         Ok(self.trials())
     }
 
     fn let_stand(&mut self, number: u32) -> Result<(), TrialFault>
-        ensures outcome { MatchResult result (λ _. Kept S.Store.cells number self.old self.new) (λ e. CannotEnd number (open_trials S.Store.cells self.old) e × (self.new ≡ self.old)) }
-        ensures sound { Sound S.Store.cells S.Store.width S.Store.holds self.old → Sound S.Store.cells S.Store.width S.Store.holds self.new }
-        ensures apart { TrialsApart S.Store.cells self.old self.new }
+        ensures outcome { MatchResult result (λ _. Kept S.cells number self.old self.new) (λ e. CannotEnd number (open_trials S.cells self.old) e × (self.new ≡ self.old)) }
+        ensures sound { Sound S.cells S.width S.holds self.old → Sound S.cells S.width S.holds self.new }
+        ensures apart { TrialsApart S.cells self.old self.new }
     {
         self.table.end(number)?;
         Ok(())
@@ -108,25 +108,25 @@ impl<S: Store> TrialStore<S> {
 
     // A write while trials are open is a plain write to the store below.
     fn pass_on(&mut self, cell: usize, part: Domain) -> Result<(), WriteFault>
-        ensures outcome { MatchResult result (λ _. Accepted S.Store.holds (length (S.Store.cells self.old.below)) (S.Store.width self.old.below) cell part.mask × (S.Store.cells self.new.below ≡ slice_set (S.Store.cells self.old.below) cell part.mask)) (λ e. Refused S.Store.holds (length (S.Store.cells self.old.below)) (S.Store.width self.old.below) cell part.mask e × (self.new ≡ self.old)) }
-        ensures width { S.Store.width self.new.below ≡ S.Store.width self.old.below }
-        ensures rest { S.Store.stays self.old.below self.new.below × Rests S.Store.cells S.Store.width S.Store.holds self.old self.new }
+        ensures outcome { MatchResult result (λ _. Accepted S.holds (length (S.cells self.old.below)) (S.width self.old.below) cell part.mask × (S.cells self.new.below ≡ slice_set (S.cells self.old.below) cell part.mask)) (λ e. Refused S.holds (length (S.cells self.old.below)) (S.width self.old.below) cell part.mask e × (self.new ≡ self.old)) }
+        ensures width { S.width self.new.below ≡ S.width self.old.below }
+        ensures rest { S.stays self.old.below self.new.below × Rests S.cells S.width S.holds self.old self.new }
     {
         self.below.write(cell, part)
     }
 }
 
 impl<S: Store> Store for TrialStore<S> {
-    ghost cells = { λ s. S.Store.cells s.below };
+    ghost cells = { λ s. S.cells s.below };
 
-    ghost width = { λ s. S.Store.width s.below };
+    ghost width = { λ s. S.width s.below };
 
-    ghost holds = { S.Store.holds };
+    ghost holds = { S.holds };
 
-    ghost stays = { λ s t. S.Store.stays s.below t.below × Rests S.Store.cells S.Store.width S.Store.holds s t };
+    ghost stays = { λ s t. S.stays s.below t.below × Rests S.cells S.width S.holds s t };
 
     ghost laws = { let m = S.Store in
-        let laws = S.Store.laws in
+        let laws = S.laws in
         record {
           formed = λ s. laws.formed s.below;
           full = laws.full;
@@ -138,10 +138,10 @@ impl<S: Store> Store for TrialStore<S> {
 
     // Where it is accepted, it ends all trials; their numbers stay granted.
     fn lay_out(&mut self, n: usize, d: usize) -> Result<(), LayOutFault>
-        ensures outcome { MatchResult result (λ _. LaidOut n d (S.Store.cells self.new.below) (S.Store.width self.new.below)) (λ _. (Sized n d → ⊥) × (self.new ≡ self.old)) }
-        ensures ended { MatchResult result (λ _. open_trials S.Store.cells self.new ≡ []) (λ _. open_trials S.Store.cells self.new ≡ open_trials S.Store.cells self.old) }
+        ensures outcome { MatchResult result (λ _. LaidOut n d (S.cells self.new.below) (S.width self.new.below)) (λ _. (Sized n d → ⊥) × (self.new ≡ self.old)) }
+        ensures ended { MatchResult result (λ _. open_trials S.cells self.new ≡ []) (λ _. open_trials S.cells self.new ≡ open_trials S.cells self.old) }
         ensures granted { self.new.table.granted ≡ self.old.table.granted }
-        ensures sound { Sound S.Store.cells S.Store.width S.Store.holds self.old → Sound S.Store.cells S.Store.width S.Store.holds self.new }
+        ensures sound { Sound S.cells S.width S.holds self.old → Sound S.cells S.width S.holds self.new }
     {
         self.below.lay_out(n, d)?;
         self.table.clear();

@@ -13,19 +13,15 @@ invariant_of-self c =
     let few : n < 16 = c.requires.1.0 in
     let h : n < length t.saved = omega (arith, few, t.long) in
     let q = c.requires.1.1.1 in
-    let fresh = λ (k : ℕ) (l : k < n). t.fresh k (omega (arith, l, e)) in (
-      length-set t.saved n x ∙ t.long,
-      (
-        omega (arith, few),
-        (
-          omega (arith, c.requires.1.1.0),
-          (
-            some_put t.saved n t.granted x h q (λ k l. t.some k (omega (arith, l, e))),
-            (fresh_put t.saved n t.granted x h q fresh, (rising_put t.saved n t.granted x h q fresh (λ j k l i. t.rising j k l (omega (arith, i, e))), tt)),
-          ),
-        ),
-      ),
-    )
+    let fresh = λ (k : ℕ) (l : k < n). t.fresh k (omega (arith, l, e)) in
+    record {
+      long = length-set t.saved n x ∙ t.long;
+      few = omega (arith, few);
+      spent = omega (arith, c.requires.1.1.0);
+      some = some_put t.saved n t.granted x h q (λ k l. t.some k (omega (arith, l, e)));
+      fresh = fresh_put t.saved n t.granted x h q fresh;
+      rising = rising_put t.saved n t.granted x h q fresh (λ j k l i. t.rising j k l (omega (arith, i, e)));
+    }
 
 pub returns : goal.returns
 returns c =
