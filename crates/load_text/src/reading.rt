@@ -58,9 +58,9 @@ fn kind_of(line: &[u8]) -> Option<Kind>
     if let Some(_) = next_word(rest) {
         return None;
     }
-    if word == b"points" {
+    if word == b"points".as_slice() {
         Some(Kind::Points)
-    } else if word == b"hands" {
+    } else if word == b"hands".as_slice() {
         Some(Kind::Hands)
     } else {
         None
@@ -69,7 +69,7 @@ fn kind_of(line: &[u8]) -> Option<Kind>
 
 // The load that a line writes, an entry a word; `number` is the line's.
 fn read_load<G: Entry + Drop>(heap: Global, line: &[u8], number: usize) -> Result<Vec<G>, TextFault>
-    ensures { MatchResult result (λ load. Written writes (words_of line.now) load.items) (λ f. LoadFault writes (words_of line.now) number f) }
+    ensures { MatchResult result (λ load. Written G.writes (words_of line.now) load.items) (λ f. LoadFault G.writes (words_of line.now) number f) }
 {
     let mut load = Vec::new(heap);
     let mut rest = line;
@@ -94,7 +94,7 @@ pub struct Pair<G> {
 }
 
 fn read_pair<G: Entry + Drop>(heap: Global, left: &[u8], right: &[u8]) -> Result<Pair<G>, TextFault>
-    ensures { MatchResult result (λ p. BothWritten writes left.now right.now p.left.items p.right.items) (λ f. BothFault writes left.now right.now f) }
+    ensures { MatchResult result (λ p. BothWritten G.writes left.now right.now p.left.items p.right.items) (λ f. BothFault G.writes left.now right.now f) }
 {
     let left = read_load(heap, left, 2)?;
     let right = read_load(heap, right, 3)?;

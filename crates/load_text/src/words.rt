@@ -23,7 +23,7 @@ fn counts_words(heap: Global, left: usize, right: usize) -> Result<String, Alloc
 }
 
 fn tally_words<G: Entry>(heap: Global, tally: Tally<'_, G>) -> Result<String, AllocError>
-    ensures { IfOk result (λ s. string_bytes s ≡ decided_words spelt tally.entry.grade.now tally.entry.left tally.entry.right) }
+    ensures { IfOk result (λ s. string_bytes s ≡ decided_words G.spelt tally.entry.grade.now tally.entry.left tally.entry.right) }
 {
     let grade = tally.grade.spell(heap)?;
     let word = weight_word(tally.left, tally.right);
@@ -33,7 +33,7 @@ fn tally_words<G: Entry>(heap: Global, tally: Tally<'_, G>) -> Result<String, Al
 
 // Says how two loads of one kind compare.
 fn pair_words<G: Grade + Entry>(heap: Global, left: &[G], right: &[G]) -> Result<String, AllocError>
-    ensures { IfOk result (λ s. SaysOf cmp spelt left.now right.now (string_bytes s)) }
+    ensures { IfOk result (λ s. SaysOf G.cmp G.spelt left.now right.now (string_bytes s)) }
 {
     match compare_loads(left, right).decided {
         None => String::from_str(heap, "equal at every grade"),

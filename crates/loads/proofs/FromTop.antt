@@ -1,6 +1,6 @@
 -- Comparing by counts from the top agrees with comparing loads of ranks.
 use Rattle.std.proofs.Common.{◌≡◌, ℕ, zero, suc, ◌+◌, ◌<◌, ◌≤◌, false, cond, ltb, ◌⊎◌, List, [], ◌∷◌, sym, refl, ap, ◌∙◌, subst, inl, inr, ⊎_elim, arith}
-use Rattle.std.specs.List.{AllByRecursion as All}
+use Rattle.std.specs.List.{AllByRecursion}
 use Rattle.std.proofs.lemmas.Bool.{cases_eq, cond_both, ltb-true, ltb-false, lt-ltb, le-ltb}
 use Rattle.std.proofs.lemmas.Bool.Decides.{nat_tests}
 use Rattle.loads.specs.declared.grades.Standing.TheVariants.{Lower, Same, Higher}
@@ -28,7 +28,7 @@ pub lower_rank : (a b : ℕ) → a < b → by_rank a b ≡ Lower
 lower_rank a b l = grind (arith, nat_tests)
 
 -- a rank from d on does not occur
-pub count_past : (d h : ℕ) → d ≤ h → (xs : List ℕ) → All (λ r. r < d) xs → count by_rank h xs ≡ 0
+pub count_past : (d h : ℕ) → d ≤ h → (xs : List ℕ) → AllByRecursion (λ r. r < d) xs → count by_rank h xs ≡ 0
 count_past d h l [] all = refl
 count_past d h l (x ∷ xs) all = omega (arith, one_apart by_rank rank_order h x (λ e. omega (arith, e, l, all.0)), count_past d h l xs all.1)
 

@@ -1,6 +1,6 @@
 -- Loads of ranks below a bound, compared by their occurrence counts from the highest rank down.
 use Rattle.std.specs.Prelude.{◌≡◌, ℕ, zero, suc, ◌<◌, cond, List, nat_lt}
-use Rattle.std.specs.List.{AllByRecursion as All}
+use Rattle.std.specs.List.{AllByRecursion}
 use Rattle.loads.specs.declared.weighing.Weight.{Weight}
 use Rattle.loads.specs.declared.weighing.Weight.TheVariants.{Lighter as lighter, Equal as equal, Heavier as heavier}
 use Rattle.loads.specs.Kinds.{by_rank}
@@ -14,7 +14,7 @@ by_counts ox oy (suc k) = cond (nat_lt (ox k) (oy k)) lighter (cond (nat_lt (oy 
 
 -- all ranks of xs are below d, and ox says how often each occurs
 pub record Counted (ox : ℕ → ℕ) (d : ℕ) (xs : List ℕ) : Type 0 where
-  pub bounded : All (λ r. r < d) xs
+  pub bounded : AllByRecursion (λ r. r < d) xs
   pub counts : (r : ℕ) → r < d → ox r ≡ count by_rank r xs
 
 -- the answer by the counts is the answer for any loads that have these counts

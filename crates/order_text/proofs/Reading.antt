@@ -2,7 +2,7 @@
 use Rattle.std.proofs.Common.{◌≡◌, ℕ, ◌+◌, ◌-◌, ◌<◌, ◌≤◌, List, [], ◌∷◌, ◌++◌, length, get_or, codes, sym, ap, ◌∙◌, subst, arith}
 use Rattle.std.proofs.ByRecursion.{All-from_get_or}
 use Rattle.std.proofs.lemmas.List.{append_assoc, append-nil}
-use Rattle.std.specs.List.{AllByRecursion as All}
+use Rattle.std.specs.List.{AllByRecursion}
 use Rattle.orders.specs.declared.surveys.Stop.{Stop}
 use Rattle.orders.specs.declared.surveys.Stop.TheVariants.{AtEnd, AtFault}
 use Rattle.orders.specs.declared.surveys.Survey.{Survey}
@@ -52,7 +52,7 @@ pub bytes_of : (fs : List ℕ) → ((i : ℕ) → get_or fs i 0 < 256) → Bytes
 bytes_of fs h = All-from_get_or (λ b. b < 256) fs 0 (λ i _. h i)
 
 -- a survey tells how the file is read
-survey_reads : (fs : List ℕ) (ss : List Said) (stop : Stop) → Bytes fs → All Fits ss → Stops fs ss stop → Reads fs 0 ss (ending stop)
+survey_reads : (fs : List ℕ) (ss : List Said) (stop : Stop) → Bytes fs → AllByRecursion Fits ss → Stops fs ss stop → Reads fs 0 ss (ending stop)
 survey_reads fs ss (AtEnd p) h fits s = (format.whole_file fs ss p h).1 (fits, s.0, s.1)
 survey_reads fs ss (AtFault f) h fits s = (format.broken_file fs ss (number_of f) (place_of f) h).1 (fits, s.0, s.1, s.2)
 

@@ -1,6 +1,6 @@
 -- The laws of the format.
 use Rattle.std.proofs.Common.{◌≡◌, ℕ, zero, suc, ◌+◌, ◌-◌, ◌<◌, ◌≤◌, ◌⊎◌, List, [], ◌∷◌, ◌++◌, length, take, drop, sym, refl, ap, ◌∙◌, subst, inl, inr, ⊎_elim, arith, length-append, length-drop}
-use Rattle.std.specs.List.{AllByRecursion as All}
+use Rattle.std.specs.List.{AllByRecursion}
 use Rattle.std.proofs.lemmas.List.{append_assoc, append-nil, take-append-drop, drop-drop, drop_at, take_at, nil_from_length, drop_all, length-take-le}
 use Rattle.std.proofs.ByRecursion.{All-drop}
 use Rattle.orders.specs.Said.{Said, lay_out, limit, post, start, undo, keep, read}
@@ -69,7 +69,7 @@ faults fs p k h way =
     way
 
 -- orders whose records stand at p, and then whatever is read after them
-reads_from : (fs : List ℕ) (p : ℕ) (ss : List Said) (rest : List ℕ) (e : Ending) → All Fits ss → drop p fs ≡ encodings ss ++ rest → Reads fs (p + length (encodings ss)) [] e → Reads fs p ss e
+reads_from : (fs : List ℕ) (p : ℕ) (ss : List Said) (rest : List ℕ) (e : Ending) → AllByRecursion Fits ss → drop p fs ≡ encodings ss ++ rest → Reads fs (p + length (encodings ss)) [] e → Reads fs p ss e
 reads_from fs p [] rest e h is r = let z : p + 0 ≡ p = omega arith in subst (λ (k : ℕ). Reads fs k [] e) z r
 reads_from fs p (s ∷ ss) rest e h is r =
     let split : drop p fs ≡ encode s ++ (encodings ss ++ rest) = is ∙ append_assoc (encode s) (encodings ss) rest in
@@ -82,7 +82,7 @@ reads_from fs p (s ∷ ss) rest e h is r =
 
 -- what was read from p on stands there
 abbrev Stood : List ℕ → ℕ → List Said → Ending → Type 0
-Stood fs p ss e = All Fits ss × (drop p fs ≡ encodings ss ++ drop (p + length (encodings ss)) fs) × Reads fs (p + length (encodings ss)) [] e
+Stood fs p ss e = AllByRecursion Fits ss × (drop p fs ≡ encodings ss ++ drop (p + length (encodings ss)) fs) × Reads fs (p + length (encodings ss)) [] e
 
 stood_none : (fs : List ℕ) (p : ℕ) (e : Ending) → Reads fs p [] e → Stood fs p [] e
 stood_none fs p e r =
@@ -108,7 +108,7 @@ whole_end fs p e (done n) = (n, refl)
 broken_end : (fs : List ℕ) (p k q : ℕ) → Reads fs p [] (broken k q) → next_of fs p ≡ faulty k q
 broken_end fs p k q (fault n) = n
 
-whole_read : (fs : List ℕ) (ss : List Said) (e : ℕ) → Bytes fs → Reads fs 0 ss (whole e) → All Fits ss × (fs ≡ encodings ss) × (e ≡ length fs)
+whole_read : (fs : List ℕ) (ss : List Said) (e : ℕ) → Bytes fs → Reads fs 0 ss (whole e) → AllByRecursion Fits ss × (fs ≡ encodings ss) × (e ≡ length fs)
 whole_read fs ss e h r =
     let st = stood fs 0 ss (whole e) h r in
     let q : ℕ = 0 + length (encodings ss) in
@@ -117,7 +117,7 @@ whole_read fs ss e h r =
     let is : fs ≡ encodings ss = st.1 ∙ ap (λ (l : List ℕ). encodings ss ++ l) none ∙ append-nil (encodings ss) in
     (st.0, is, omega (arith, w.1, ap length is))
 
-whole_written : (fs : List ℕ) (ss : List Said) (e : ℕ) → All Fits ss → fs ≡ encodings ss → e ≡ length fs → Reads fs 0 ss (whole e)
+whole_written : (fs : List ℕ) (ss : List Said) (e : ℕ) → AllByRecursion Fits ss → fs ≡ encodings ss → e ≡ length fs → Reads fs 0 ss (whole e)
 whole_written fs ss e h is len =
     let q : ℕ = 0 + length (encodings ss) in
     let same : q ≡ e = omega (arith, ap length is) in
@@ -125,7 +125,7 @@ whole_written fs ss e h is len =
     let stop : Reads fs q [] (whole e) = subst (λ (k : ℕ). Reads fs k [] (whole e)) (sym same) (done (ends fs e none)) in
     reads_from fs 0 ss [] (whole e) h (is ∙ sym (append-nil (encodings ss))) stop
 
-broken_read : (fs : List ℕ) (ss : List Said) (k p : ℕ) → Bytes fs → Reads fs 0 ss (broken k p) → All Fits ss × (take p fs ≡ encodings ss) × (p ≤ length fs) × Faulty k (drop p fs)
+broken_read : (fs : List ℕ) (ss : List Said) (k p : ℕ) → Bytes fs → Reads fs 0 ss (broken k p) → AllByRecursion Fits ss × (take p fs ≡ encodings ss) × (p ≤ length fs) × Faulty k (drop p fs)
 broken_read fs ss k p h r =
     let st = stood fs 0 ss (broken k p) h r in
     let q : ℕ = 0 + length (encodings ss) in
@@ -137,7 +137,7 @@ broken_read fs ss k p h r =
       subst (λ (n : ℕ). Faulty k (drop n fs)) (sym f.0) f.1,
     )
 
-broken_written : (fs : List ℕ) (ss : List Said) (k p : ℕ) → Bytes fs → All Fits ss → take p fs ≡ encodings ss → p ≤ length fs → Faulty k (drop p fs) → Reads fs 0 ss (broken k p)
+broken_written : (fs : List ℕ) (ss : List Said) (k p : ℕ) → Bytes fs → AllByRecursion Fits ss → take p fs ≡ encodings ss → p ≤ length fs → Faulty k (drop p fs) → Reads fs 0 ss (broken k p)
 broken_written fs ss k p h fits is within f =
     let q : ℕ = 0 + length (encodings ss) in
     let same : q ≡ p = omega (arith, ap length is, length-take-le p fs within) in

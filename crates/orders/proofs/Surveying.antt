@@ -1,6 +1,6 @@
 -- One more order of a survey, and its two ends.
 use Rattle.std.proofs.Common.{◌≡◌, ℕ, ◌+◌, ◌-◌, ◌<◌, ◌≤◌, List, [], ◌∷◌, length, get_or, take, drop, sym, refl, ap, ◌∙◌, subst, arith}
-use Rattle.std.specs.List.{AllByRecursion as All}
+use Rattle.std.specs.List.{AllByRecursion}
 use Rattle.std.proofs.ByRecursion.{All-from_get_or}
 use Rattle.orders.specs.Said.{Said}
 use Rattle.orders.specs.Parse.{Parsed, order, nothing, cut, unknown, parse, answer_at, onward_from, ended, found, faulty, next_of, place_after}
@@ -39,7 +39,7 @@ stays_at : (fs : List ℕ) (p : ℕ) → ended ≡ next_of fs p → place_after 
 stays_at fs p i = stays_from p (parse fs p) i
 
 pub at_end : (fs gs : List ℕ) (p q n : ℕ) → Bytes fs → gs ≡ fs → ended ≡ next_of gs p → q ≡ place_after gs p → Leads fs p n →
-    (ss : List Said) × (length ss ≡ n) × All Fits ss × ((fs ≡ encodings ss) × (q ≡ length fs))
+    (ss : List Said) × (length ss ≡ n) × AllByRecursion Fits ss × ((fs ≡ encodings ss) × (q ≡ length fs))
 at_end fs gs p q n h g i j leads =
     let a : next_of fs p ≡ ended = ap (λ (l : List ℕ). next_of l p) (sym g) ∙ sym i in
     let stays : p ≡ q = sym (stays_at gs p i) ∙ sym j in
@@ -48,7 +48,7 @@ at_end fs gs p q n h g i j leads =
     (t.0, omega (arith, t.2), f.0, (f.1, f.2))
 
 pub at_fault : (fs gs : List ℕ) (p n k q : ℕ) → Bytes fs → gs ≡ fs → faulty k q ≡ next_of gs p → Leads fs p n →
-    (ss : List Said) × (length ss ≡ n) × All Fits ss × ((take q fs ≡ encodings ss) × (q ≤ length fs) × Faulty k (drop q fs))
+    (ss : List Said) × (length ss ≡ n) × AllByRecursion Fits ss × ((take q fs ≡ encodings ss) × (q ≤ length fs) × Faulty k (drop q fs))
 at_fault fs gs p n k q h g i leads =
     let a : next_of fs p ≡ faulty k q = ap (λ (l : List ℕ). next_of l p) (sym g) ∙ sym i in
     let t = leads [] (broken k q) (fault a) in

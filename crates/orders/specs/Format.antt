@@ -1,6 +1,6 @@
 -- The format of an order file, stated by itself: how orders are written, and what a file then says.
 use Rattle.std.specs.Prelude.{◌≡◌, ℕ, ◌^◌, ◌<◌, ◌≤◌, ◌⊎◌, List, [], ◌∷◌, ◌++◌, length, take, drop, ◌≢◌}
-use Rattle.std.specs.List.{AllByRecursion as All}
+use Rattle.std.specs.List.{AllByRecursion}
 use Rattle.orders.specs.Said.{Said, lay_out, limit, post, start, undo, keep, read}
 use Rattle.orders.specs.Marks.{LO, LI, PR, OT, UT, KT, RD, in_four, in_six}
 use Rattle.orders.specs.Parse.{ended, found, faulty, next_of, place_after}
@@ -21,7 +21,7 @@ encodings [] = []
 encodings (s ∷ ss) = encode s ++ encodings ss
 
 abbrev pub Bytes : List ℕ → Type 0
-Bytes = All (λ b. b < 256)
+Bytes = AllByRecursion (λ b. b < 256)
 
 -- an order whose fields fit their bytes
 abbrev pub Fits : Said → Type 0
@@ -60,16 +60,16 @@ pub data Reads (fs : List ℕ) : ℕ → List Said → Ending → Type 0 where
 pub record Format : Type 0 where
   -- a file is read to its end, e, as the orders ss exactly when it is their records, one after another, and e is its length
   pub whole_file : (fs : List ℕ) (ss : List Said) (e : ℕ) → Bytes fs →
-      (Reads fs 0 ss (whole e) → All Fits ss × (fs ≡ encodings ss) × (e ≡ length fs)) ×
-      (All Fits ss × (fs ≡ encodings ss) × (e ≡ length fs) → Reads fs 0 ss (whole e))
+      (Reads fs 0 ss (whole e) → AllByRecursion Fits ss × (fs ≡ encodings ss) × (e ≡ length fs)) ×
+      (AllByRecursion Fits ss × (fs ≡ encodings ss) × (e ≡ length fs) → Reads fs 0 ss (whole e))
   -- it is read as the orders ss up to a fault exactly when their records come first, the fault's place is where they end, and what stands there is at fault
   pub broken_file : (fs : List ℕ) (ss : List Said) (k p : ℕ) → Bytes fs →
-      (Reads fs 0 ss (broken k p) → All Fits ss × (take p fs ≡ encodings ss) × (p ≤ length fs) × Faulty k (drop p fs)) ×
-      (All Fits ss × (take p fs ≡ encodings ss) × (p ≤ length fs) × Faulty k (drop p fs) → Reads fs 0 ss (broken k p))
+      (Reads fs 0 ss (broken k p) → AllByRecursion Fits ss × (take p fs ≡ encodings ss) × (p ≤ length fs) × Faulty k (drop p fs)) ×
+      (AllByRecursion Fits ss × (take p fs ≡ encodings ss) × (p ≤ length fs) × Faulty k (drop p fs) → Reads fs 0 ss (broken k p))
   -- every list of orders whose fields fit reads back as itself
-  pub reads_back : (ss : List Said) → All Fits ss → Reads (encodings ss) 0 ss (whole (length (encodings ss)))
+  pub reads_back : (ss : List Said) → AllByRecursion Fits ss → Reads (encodings ss) 0 ss (whole (length (encodings ss)))
   -- two different lists of such orders never have the same bytes
-  pub one_meaning : (ss ts : List Said) → All Fits ss → All Fits ts → encodings ss ≡ encodings ts → ss ≡ ts
+  pub one_meaning : (ss ts : List Said) → AllByRecursion Fits ss → AllByRecursion Fits ts → encodings ss ≡ encodings ts → ss ≡ ts
   -- every file is read, and in one way only
   pub read_somehow : (fs : List ℕ) → Bytes fs → (ss : List Said) × (e : Ending) × Reads fs 0 ss e
   pub one_reading : (fs : List ℕ) (ss ts : List Said) (d e : Ending) → Reads fs 0 ss d → Reads fs 0 ts e → (ss ≡ ts) × (d ≡ e)

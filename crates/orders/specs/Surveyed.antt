@@ -1,6 +1,6 @@
 -- What a survey of a file says, in the words of the format.
 use Rattle.std.specs.Prelude.{◌≡◌, ℕ, ◌≤◌, List, length, take, drop}
-use Rattle.std.specs.List.{AllByRecursion as All}
+use Rattle.std.specs.List.{AllByRecursion}
 use Rattle.orders.specs.declared.surveys.Stop.{Stop}
 use Rattle.orders.specs.declared.surveys.Stop.TheVariants.{AtEnd, AtFault}
 use Rattle.orders.specs.declared.surveys.Survey.{Survey}
@@ -14,4 +14,4 @@ Stops fs ss (AtEnd p) = (fs ≡ encodings ss) × (p ≡ length fs)
 Stops fs ss (AtFault f) = (take (place_of f) fs ≡ encodings ss) × (place_of f ≤ length fs) × Faulty (number_of f) (drop (place_of f) fs)
 
 abbrev pub Surveyed : List ℕ → Survey → Type 0
-Surveyed fs r = (ss : List Said) × (length ss ≡ r.orders) × All Fits ss × Stops fs ss r.stop
+Surveyed fs r = (ss : List Said) × (length ss ≡ r.orders) × AllByRecursion Fits ss × Stops fs ss r.stop

@@ -1,6 +1,6 @@
 -- The open trials by the places of the table.
 use Rattle.std.proofs.Common.{◌≡◌, ℕ, zero, suc, ◌+◌, ◌<◌, ◌≤◌, ◌⊎◌, List, [], ◌∷◌, ◌++◌, length, get_or, set, sym, refl, ap, ◌∙◌, subst, ap₂, inl, inr, arith}
-use Rattle.std.specs.List.{AllByRecursion as All}
+use Rattle.std.specs.List.{AllByRecursion}
 use Rattle.std.proofs.lemmas.List.{get_or-set_same, get_or-set_other}
 use Rattle.std.proofs.lemmas.Bool.{cases_eq}
 use Rattle.trials.specs.Saved.{nothing, at, number_at}
@@ -15,7 +15,7 @@ pub below_more : (ss : List Saved) (n : ℕ) → trials_below ss (n + 1) ≡ tri
 below_more ss n = let e : n + 1 ≡ suc n = omega arith in ap (trials_below ss) e
 
 -- what holds at each place holds of each trial
-pub each_below : (P : Trial → Type 0) (ss : List Saved) (n : ℕ) → ((k : ℕ) → k < n → P (trial (at ss k))) → All P (trials_below ss n)
+pub each_below : (P : Trial → Type 0) (ss : List Saved) (n : ℕ) → ((k : ℕ) → k < n → P (trial (at ss k))) → AllByRecursion P (trials_below ss n)
 each_below P ss zero f = tt
 each_below P ss (suc n) f = (f n (omega arith), each_below P ss n (λ k h. f k (omega (arith, h))))
 

@@ -2,11 +2,11 @@
 use Rattle.std.proofs.Common.{arith, sym, subst, ap, ap₂, ◌∙◌, inl, inr, append_assoc}
 use Rattle.std.specs.Prelude.{◌≡◌, ℕ, zero, suc, ◌+◌, ◌<◌, ◌≤◌, ◌⊎◌, List, [], ◌∷◌, ◌++◌, map, length, drop, ◌≢◌, slice_index_or, refl}
 use Rattle.std.proofs.lemmas.List.{map-append, length-map}
-use Rattle.std.specs.List.{AllByRecursion as All}
+use Rattle.std.specs.List.{AllByRecursion}
 use Rattle.trials.specs.Trials.{Trial, Numbered, NotAmong, Opens, Ends}
 use Rattle.trials.specs.TrialStores.{of_cells, Apart}
 
-all_rear : (P : Trial → Type 0) (xs ys : List Trial) → All P (xs ++ ys) → All P ys
+all_rear : (P : Trial → Type 0) (xs ys : List Trial) → AllByRecursion P (xs ++ ys) → AllByRecursion P ys
 all_rear P [] ys h = h
 all_rear P (x ∷ xs) ys h = all_rear P xs ys h.1
 
@@ -17,8 +17,8 @@ same_rest : (x y : Trial) (xs ys : List Trial) → x ∷ xs ≡ y ∷ ys → xs 
 same_rest x y xs ys e = ap (λ (zs : List Trial). drop 1 zs) e
 
 -- a trial that ends has what every open one has, and so have the older ones
-pub ends_that : (P : Trial → Type 0) (t : ℕ) (before : List Trial) (that : Trial) (older : List Trial) → Ends t before that older → All P before → P that × All P older
-ends_that P t before that older e h = all_rear P e.newer (that ∷ older) (subst (All P) e.split h)
+pub ends_that : (P : Trial → Type 0) (t : ℕ) (before : List Trial) (that : Trial) (older : List Trial) → Ends t before that older → AllByRecursion P before → P that × AllByRecursion P older
+ends_that P t before that older e h = all_rear P e.newer (that ∷ older) (subst (AllByRecursion P) e.split h)
 
 pub ends_map : (f : Trial → Trial) (t : ℕ) (before : List Trial) (that : Trial) (older : List Trial) → (f that).number ≡ that.number → Ends t before that older → Ends t (map f before) (f that) (map f older)
 ends_map f t before that older same e = record { newer = map f e.newer; split = ap (map f) e.split ∙ map-append f e.newer (that ∷ older); named = same ∙ e.named }
@@ -52,7 +52,7 @@ pub numbered_map : (n g : ℕ) (xs : List Trial) → Numbered g xs → Numbered 
 numbered_map n g [] h = tt
 numbered_map n g (x ∷ xs) h = (h.0, h.1, lower xs h.2, numbered_map n g xs h.3)
   where
-    lower : (ys : List Trial) → All (λ y. y.number < x.number) ys → All (λ y. y.number < x.number) (map (of_cells n) ys)
+    lower : (ys : List Trial) → AllByRecursion (λ y. y.number < x.number) ys → AllByRecursion (λ y. y.number < x.number) (map (of_cells n) ys)
     lower [] l = tt
     lower (y ∷ ys) l = (l.0, lower ys l.1)
 

@@ -1,7 +1,7 @@
 -- The trials of a store by those of its table.
 use Rattle.std.proofs.Common.{arith, sym, subst, ap, ap₂, ◌∙◌}
 use Rattle.std.specs.Prelude.{◌≡◌, ℕ, ◌+◌, ◌<◌, ◌≤◌, List, [], ◌∷◌, ◌++◌, map, length, take, Ok, Err, Result, MatchResult, slice_set, refl}
-use Rattle.std.specs.List.{AllByRecursion as All}
+use Rattle.std.specs.List.{AllByRecursion}
 use Rattle.std.proofs.lemmas.List.{length-set, length-map}
 use Rattle.stores.specs.Stores.{Savable, Accepted, Refused}
 use Rattle.stores.specs.declared.faults.WriteFault.{WriteFault}
@@ -72,7 +72,7 @@ module _ {S : Type 0} (cells : S → List ℕ) (width : S → ℕ) (holds : ℕ 
 
   pub open_sound : Savable holds (width b) (length (cells b)) xs → (r : Result ℕ TrialFault) → Answered r
       → Sound cells width holds (record { below = b; table = t }) → Sound cells width holds (record { below = b; table = u })
-  open_sound can (Ok k) o h = subst (All (λ x. Savable holds (width b) (length (cells b)) x.masks)) (sym o.front) (can, h)
+  open_sound can (Ok k) o h = subst (AllByRecursion (λ x. Savable holds (width b) (length (cells b)) x.masks)) (sym o.front) (can, h)
   open_sound can (Err e) o h = kept_sound cells width holds b t u o.1 h
 
 -- a trial of the table ends, and the store below becomes c, of as many cells and the same width
@@ -86,8 +86,8 @@ module _ {S : Type 0} (cells : S → List ℕ) (width : S → ℕ) (holds : ℕ 
   pub end_sound : Sound cells width holds (record { below = b; table = t }) → Sound cells width holds (record { below = c; table = u })
   end_sound h =
       let older = (ends_that (λ y. Savable holds (width b) (length (cells b)) y.masks) n (trials_of t) (trial x) (trials_of u) e h).1 in
-      subst (λ (k : ℕ). All (λ y. Savable holds (width c) k y.masks) (trials_of u)) (sym count)
-      (subst (λ (d : ℕ). All (λ y. Savable holds d (length (cells b)) y.masks) (trials_of u)) (sym scale) older)
+      subst (λ (k : ℕ). AllByRecursion (λ y. Savable holds (width c) k y.masks) (trials_of u)) (sym count)
+      (subst (λ (d : ℕ). AllByRecursion (λ y. Savable holds d (length (cells b)) y.masks) (trials_of u)) (sym scale) older)
 
   pub end_can : Sound cells width holds (record { below = b; table = t }) → Savable holds (width b) (length (cells b)) x.masks
   end_can h = (ends_that (λ y. Savable holds (width b) (length (cells b)) y.masks) n (trials_of t) (trial x) (trials_of u) e h).0
@@ -102,8 +102,8 @@ pub write_rests : {S : Type 0} (cells : S → List ℕ) (width : S → ℕ) (hol
 write_rests cells width holds b c t count scale = record {
   trials = ap (λ (k : ℕ). map (of_cells k) (trials_of t)) count;
   granted = refl;
-  sound = λ h. subst (λ (k : ℕ). All (λ y. Savable holds (width c) k y.masks) (trials_of t)) (sym count)
-      (subst (λ (d : ℕ). All (λ y. Savable holds d (length (cells b)) y.masks) (trials_of t)) (sym scale) h);
+  sound = λ h. subst (λ (k : ℕ). AllByRecursion (λ y. Savable holds (width c) k y.masks) (trials_of t)) (sym count)
+      (subst (λ (d : ℕ). AllByRecursion (λ y. Savable holds d (length (cells b)) y.masks) (trials_of t)) (sym scale) h);
 }
 
 pub write_count : {S : Type 0} (cells : S → List ℕ) (width : S → ℕ) (holds : ℕ → ℕ → Type 0) (b c : S) (cell m : ℕ) (r : Result Unit WriteFault)

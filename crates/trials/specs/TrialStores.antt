@@ -1,6 +1,6 @@
 -- A store with trials: the open trials, the newest first, each with the cells as they were when it was opened.
 use Rattle.std.specs.Prelude.{◌≡◌, ℕ, ◌+◌, ◌≤◌, List, map, length, take, Result, MatchResult}
-use Rattle.std.specs.List.{AllByRecursion as All}
+use Rattle.std.specs.List.{AllByRecursion}
 use Rattle.stores.specs.Stores.{Savable}
 use Rattle.trials.specs.Trials.{Trial, trials_of, Opens, CannotOpen, Ends, CannotEnd}
 use Rattle.trials.specs.declared.faults.TrialFault.{TrialFault}
@@ -47,7 +47,7 @@ module _ {S : Type 0} (cells : S → List ℕ) where
   module _ (width : S → ℕ) (holds : ℕ → ℕ → Type 0) where
     -- what is saved for each open trial can be written back
     abbrev pub Sound : TrialStore S → Type 0
-    Sound s = All (λ x. Savable holds (width s.below) (length (cells s.below)) x.masks) (trials_of s.table)
+    Sound s = AllByRecursion (λ x. Savable holds (width s.below) (length (cells s.below)) x.masks) (trials_of s.table)
 
     -- what a write leaves
     pub record Rests (s t : TrialStore S) : Type 0 where

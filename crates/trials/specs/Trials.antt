@@ -1,6 +1,6 @@
 -- The open trials, the newest first, and what opening one and ending one do to them.
 use Rattle.std.specs.Prelude.{◌≡◌, ℕ, zero, suc, ◌+◌, ◌<◌, ◌≤◌, List, [], ◌∷◌, ◌++◌, length, ◌≢◌}
-use Rattle.std.specs.List.{AllByRecursion as All}
+use Rattle.std.specs.List.{AllByRecursion}
 use Rattle.trials.specs.Saved.{at}
 use Rattle.trials.specs.declared.saved.Saved.{Saved}
 use Rattle.trials.specs.declared.saved.TrialTable.{TrialTable}
@@ -26,12 +26,12 @@ trials_of t = trials_below t.saved t.count
 
 -- no trial has the number t
 abbrev pub NotAmong : ℕ → List Trial → Type 0
-NotAmong t trials = All (λ x. x.number ≢ t) trials
+NotAmong t trials = AllByRecursion (λ x. x.number ≢ t) trials
 
 -- the numbers are among those granted, and fall from the newest on: no two trials share one
 abbrev pub Numbered : ℕ → List Trial → Type 0
 Numbered granted [] = Unit {0}
-Numbered granted (x ∷ older) = (1 ≤ x.number) × (x.number ≤ granted) × All (λ y. y.number < x.number) older × Numbered granted older
+Numbered granted (x ∷ older) = (1 ≤ x.number) × (x.number ≤ granted) × AllByRecursion (λ y. y.number < x.number) older × Numbered granted older
 
 -- the trial `that` is opened: it has the next number, and stands in front
 pub record Opens (before : List Trial) (granted : ℕ) (that : Trial) (after : List Trial) (granted' : ℕ) : Type 0 where

@@ -2,19 +2,19 @@
 #![tactic(auto)]
 
 ghost use Rattle.std.specs.Prelude.{◌≡◌, length};
-ghost use Rattle.std.specs.List.{AllByRecursion as All};
+ghost use Rattle.std.specs.List.{AllByRecursion};
 ghost use Rattle.worked.specs.Rows.{Holds};
 ghost use Rattle.worked.specs.Table.{table};
 
 // The theorem: every row of the table holds.
 fn every_row_holds()
-    ensures { All Holds table }
+    ensures { AllByRecursion Holds table }
 {}
 
 // How many rows there are, every one of which holds.
 pub fn worked_rows() -> usize
     ensures rows { result ≡ length table }
-    ensures hold { All Holds table }
+    ensures hold { AllByRecursion Holds table }
 {
     every_row_holds();
     4
