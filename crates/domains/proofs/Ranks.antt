@@ -1,9 +1,9 @@
 -- The laws of `In`, all of them.
-use Rattle.std.proofs.Common.{◌≡◌, ℕ, zero, suc, ◌+◌, ◌-◌, ◌*◌, ◌/◌, ◌%◌, ◌^◌, ◌<◌, ◌≤◌, ◌⊎◌, sym, refl, ap, ◌∙◌, subst, inl, inr, mod-lt, mod-eq_of_lt, mul_assoc, div-lt_iff_lt-mul, pow-suc, div-add-mod', div-mul-le_self, add-one, one-add, arith, pow_pos, pow_mono, pow-add, shr-shr, shr_lt}
+use Rattle.std.proofs.Common.{◌≡◌, ℕ, zero, suc, ◌+◌, ◌-◌, ◌*◌, ◌/◌, ◌%◌, ◌^◌, ◌<◌, ◌≤◌, ◌⊎◌, sym, refl, ap, ◌∙◌, subst, inl, inr, mod-lt, mul_assoc, pow-suc, div-mul-le_self, add-one, one-add, arith, pow_pos, pow_mono, pow-add, shr-shr, shr_lt}
 use native.Mathlib.Nat.{div-eq_of_lt, div-eq_of_lt-le, mul-mod_left}
 use lib.Bits.{bit_and, and_shr, and_step}
-use lib.Count.{ones, ones_step, ones-le, count_trailing_zeros, count_leading_zeros, under, leading_top, trailing_le}
-use lib.Pow.{shl-shr, field, mod-mod-pow, high, low, ones_split, high_ones, ones_lt}
+use lib.Count.{ones, ones_step, ones-le, count_trailing_zeros, under}
+use lib.Pow.{shl-shr, field, mod-mod-pow, high, low, ones_split, ones_lt}
 use Rattle.std.proofs.lemmas.Bool.{cases_lt, cases_order}
 use Rattle.domains.specs.Sets.{In, up_to, from, run, Gapless, size_below}
 

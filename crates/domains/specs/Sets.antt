@@ -1,5 +1,5 @@
 -- A set of ranks is written as a number, its mask, in which rank r counts 2 ^ r.
-use Rattle.std.specs.Prelude.{◌≡◌, ℕ, zero, suc, ◌+◌, ◌-◌, ◌*◌, ◌/◌, ◌%◌, ◌^◌, ◌<◌, ◌≤◌}
+use Rattle.std.specs.Prelude.{◌≡◌, ℕ, zero, suc, ◌+◌, ◌-◌, ◌*◌, ◌/◌, ◌%◌, ◌^◌, ◌<◌}
 
 -- rank r is in the set with the mask m
 abbrev pub In : ℕ → ℕ → Type 0

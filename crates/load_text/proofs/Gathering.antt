@@ -1,7 +1,6 @@
 -- Words read one by one into a load.
-use Rattle.std.proofs.Common.{◌≡◌, ℕ, zero, suc, ◌+◌, ◌-◌, ◌<◌, ◌≤◌, List, [], ◌∷◌, ◌++◌, length, get_or, take, drop, sym, refl, ap, ◌∙◌, subst, add-one, arith, length-drop, take_all}
+use Rattle.std.proofs.Common.{◌≡◌, ℕ, zero, suc, ◌+◌, ◌-◌, ◌<◌, ◌≤◌, List, [], ◌∷◌, ◌++◌, length, get_or, take, drop, sym, ap, ◌∙◌, subst, add-one, arith, length-drop, take_all}
 use Rattle.std.proofs.lemmas.List.{take_more}
-use Rattle.load_text.specs.Lines.{words_of}
 use Rattle.load_text.specs.Text.{Written, BadEntryAt}
 
 module _ {G : Type 0} (writes : List ℕ → G → Type 0) where

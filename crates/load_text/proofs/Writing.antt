@@ -1,7 +1,6 @@
 -- The words that write numbers are ASCII, so a word that is no text writes none.
-use Rattle.std.proofs.Common.{◌≡◌, ℕ, ◌^◌, ◌<◌, ◌≤◌, Bool, true, false, cond, eqb, List, [], ◌∷◌, length, get_or, drop, IsUtf8, IsAscii, refl, ap, arith}
+use Rattle.std.proofs.Common.{ℕ, ◌^◌, ◌≤◌, eqb, List, [], ◌∷◌, length, IsUtf8, IsAscii, arith}
 use Rattle.std.specs.Str.Parse.{AllDigits, IsNumeral, without_leading_plus, without_leading_sign}
-use Rattle.std.specs.Int.{IsInRange}
 use Rattle.std.proofs.lemmas.Str.Ascii.{IsAscii-nil, IsAscii-cons, IsAscii-from_reads}
 use Rattle.std.proofs.lemmas.Str.Parse.{digit_at}
 use Rattle.std.proofs.lemmas.Bool.{eqb-true}

@@ -1,12 +1,11 @@
 -- The recursion agrees with the counts.
-use Rattle.std.proofs.Common.{◌≡◌, ℕ, zero, suc, ◌+◌, ◌<◌, ◌≤◌, Bool, true, false, cond, List, [], ◌∷◌, ◌++◌, length, sym, refl, ap, ◌∙◌, subst, arith}
+use Rattle.std.proofs.Common.{◌≡◌, ℕ, zero, suc, ◌+◌, ◌<◌, ◌≤◌, Bool, cond, List, [], ◌∷◌, length, sym, refl, ap, ◌∙◌, subst, arith}
 use Rattle.std.proofs.lemmas.Bool.{both_ways, cond_both}
 use Rattle.loads.specs.declared.grades.Standing.{Standing}
-use Rattle.loads.specs.declared.grades.Standing.TheVariants.{Lower, Same, Higher}
+use Rattle.loads.specs.declared.grades.Standing.TheVariants.{Lower}
 use Rattle.loads.specs.declared.weighing.Weight.{Weight}
-use Rattle.loads.specs.declared.weighing.Weight.TheVariants.{Lighter as lighter, Equal as equal, Heavier as heavier}
 use Rattle.loads.specs.Grades.{Order, is_lower, is_same}
-use Rattle.loads.specs.Loads.{count, Lighter, Equal, Weighed}
+use Rattle.loads.specs.Loads.{count, Lighter, Weighed}
 use Rattle.loads.specs.Recursive.{maximum, without, by_maxima, weighed_in, weighed}
 use Rattle.loads.proofs.Counting.{one, by_standing_lem, is_lower_lem, is_same_lem, below_higher, one_here, one_higher, one_apart}
 use Rattle.loads.proofs.Descent.{by_test}

@@ -7,8 +7,8 @@ use Rattle.loads.specs.declared.grades.Standing.TheVariants.{Lower, Same, Higher
 use Rattle.loads.specs.declared.weighing.Held.{Held}
 use Rattle.loads.specs.declared.weighing.Tally.{Tally}
 use Rattle.loads.specs.Grades.{Order, is_lower}
-use Rattle.loads.specs.Loads.{count, Lighter, Equal}
-use Rattle.loads.specs.Weighing.{below, NoneBetween, TopIs, NoTop, Top, times, by_standing, Raised, PeakIs, HigherOf, DecidedAt, distinct}
+use Rattle.loads.specs.Loads.{count, Equal}
+use Rattle.loads.specs.Weighing.{below, NoneBetween, TopIs, NoTop, Top, times, Raised, PeakIs, HigherOf, DecidedAt, distinct}
 use Rattle.loads.proofs.Counting.{one, by_standing_lem, is_lower_lem, count_push, count_le_length, above_lower, below_higher, one_here, one_higher, one_apart}
 
 -- one member more of xs

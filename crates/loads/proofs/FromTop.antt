@@ -1,16 +1,16 @@
 -- Comparing by counts from the top agrees with comparing loads of ranks.
-use Rattle.std.proofs.Common.{◌≡◌, ℕ, zero, suc, ◌+◌, ◌<◌, ◌≤◌, false, cond, ltb, ◌⊎◌, List, [], ◌∷◌, sym, refl, ap, ◌∙◌, subst, inl, inr, ⊎_elim, arith}
+use Rattle.std.proofs.Common.{◌≡◌, ℕ, zero, suc, ◌<◌, ◌≤◌, false, cond, ltb, List, [], ◌∷◌, sym, refl, ap, ◌∙◌, subst, ⊎_elim, arith}
 use Rattle.std.specs.List.{AllByRecursion}
 use Rattle.std.proofs.lemmas.Bool.{cases_eq, cond_both, ltb-true, ltb-false, lt-ltb, le-ltb}
 use Rattle.std.proofs.lemmas.Bool.Decides.{nat_tests}
-use Rattle.loads.specs.declared.grades.Standing.TheVariants.{Lower, Same, Higher}
+use Rattle.loads.specs.declared.grades.Standing.TheVariants.{Lower}
 use Rattle.loads.specs.declared.weighing.Weight.{Weight}
-use Rattle.loads.specs.declared.weighing.Weight.TheVariants.{Lighter as lighter, Equal as equal, Heavier as heavier}
+use Rattle.loads.specs.declared.weighing.Weight.TheVariants.{Lighter as lighter, Heavier as heavier}
 use Rattle.loads.specs.Grades.{Order}
 use Rattle.loads.specs.Kinds.{by_rank}
-use Rattle.loads.specs.Loads.{count, Lighter, Equal, Weighed}
-use Rattle.loads.specs.Counts.{by_counts, Counted, ByCounts}
-use Rattle.loads.proofs.Counting.{one, one_apart}
+use Rattle.loads.specs.Loads.{count, Weighed}
+use Rattle.loads.specs.Counts.{by_counts, ByCounts}
+use Rattle.loads.proofs.Counting.{one_apart}
 
 -- ranks are a kind in total order
 pub rank_order : Order by_rank

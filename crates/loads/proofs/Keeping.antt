@@ -6,11 +6,10 @@ use Rattle.std.proofs.lemmas.List.Sorted.{sum_by-IsPermutation}
 use lib.Seq.{set_split, split_at}
 use Rattle.std.proofs.lemmas.Bool.{ltb-true, ltb-false, cond_both, cases_order}
 use Rattle.loads.specs.declared.grades.Standing.{Standing}
-use Rattle.loads.specs.declared.grades.Standing.TheVariants.{Lower, Same, Higher}
 use Rattle.loads.specs.declared.weighing.Weight.{Weight}
 use Rattle.loads.specs.declared.weighing.Weight.TheVariants.{Lighter as lighter, Equal as equal, Heavier as heavier}
 use Rattle.loads.specs.Grades.{Order}
-use Rattle.loads.specs.Loads.{count, Lighter, Equal, NotHeavier, Weighed}
+use Rattle.loads.specs.Loads.{count, NotHeavier, Weighed}
 use Rattle.loads.specs.Laws.{Weighs, is_not_heavier, as_weight, Replaced}
 use Rattle.loads.specs.Weighing.{DecidedAt, decided_by}
 use Rattle.loads.proofs.Counting.{one, by_standing_lem, below_higher}

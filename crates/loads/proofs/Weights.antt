@@ -2,7 +2,7 @@
 use Rattle.std.proofs.Common.{◌≡◌, ℕ, suc, ◌+◌, ◌<◌, List, [], ◌∷◌, ◌++◌, length, get_or, take, drop, set, sym, refl, ap, ◌∙◌, subst, inl, inr, arith}
 use lib.Seq.{set_split, split_at}
 use Rattle.loads.specs.declared.grades.Standing.{Standing}
-use Rattle.loads.specs.declared.grades.Standing.TheVariants.{Lower, Same, Higher}
+use Rattle.loads.specs.declared.grades.Standing.TheVariants.{Lower, Higher}
 use Rattle.loads.specs.declared.weighing.Weight.{Weight}
 use Rattle.loads.specs.declared.weighing.Weight.TheVariants.{Lighter as lighter, Equal as equal, Heavier as heavier}
 use Rattle.loads.specs.Grades.{Order}

@@ -1,6 +1,6 @@
 -- The laws of the comparison of counts.
-use Rattle.std.proofs.Common.{◌≡◌, ℕ, zero, suc, ◌+◌, ◌<◌, ◌≤◌, false, cond, eqb, ltb, ◌⊎◌, sym, refl, ap, ◌∙◌, subst, ap₂, inl, inr, arith}
-use Rattle.std.proofs.lemmas.Bool.{cases_eq, cases_order, cond_both, cond-true, cond-false, ltb-true, ltb-false, eq-eqb, ne_eqb}
+use Rattle.std.proofs.Common.{◌≡◌, ℕ, zero, suc, ◌<◌, ◌≤◌, false, cond, ltb, ◌⊎◌, sym, subst, inl, inr, arith}
+use Rattle.std.proofs.lemmas.Bool.{cases_eq, cases_order, cond_both, ltb-true, ltb-false}
 use Rattle.loads.specs.declared.weighing.Weight.TheVariants.{Lighter as lighter, Heavier as heavier}
 use Rattle.loads.specs.Counts.{by_counts}
 use Rattle.loads.specs.Kinds.{by_rank}

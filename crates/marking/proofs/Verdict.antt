@@ -1,8 +1,8 @@
 -- The marks decide: of a change by one, and of a member of a load that is moved.
-use Rattle.std.proofs.Common.{◌≡◌, ℕ, suc, ◌+◌, ◌-◌, ◌<◌, ◌≤◌, min, max, Bool, true, false, cond, ltb, leb, ◌⊎◌, List, ◌∷◌, ◌++◌, length, get_or, take, drop, set, Some, None, MatchBool, Option, sym, refl, ap, ◌∙◌, subst, inl, inr, arith}
+use Rattle.std.proofs.Common.{◌≡◌, ℕ, suc, ◌+◌, ◌<◌, ◌≤◌, Bool, true, false, ◌⊎◌, List, ◌∷◌, ◌++◌, length, get_or, take, drop, set, Some, None, MatchBool, Option, sym, ap, ◌∙◌, subst, inl, inr, arith}
 use lib.ListN.{get_or-eq_default}
 use lib.Seq.{set_split, split_at}
-use Rattle.std.proofs.lemmas.Bool.{cases_eq, cases_lt, cases_order, cond_both, cond-true, cond-false, leb-true, leb-false, ltb-true, ltb-false}
+use Rattle.std.proofs.lemmas.Bool.{cases_eq, cases_lt, cases_order}
 use Rattle.loads.specs.Counts.{Counted}
 use Rattle.loads.specs.Kinds.{by_rank}
 use Rattle.loads.specs.Loads.{count, NotHeavier}
@@ -10,10 +10,9 @@ use Rattle.loads.proofs.FromTop.{rank_lower, lower_rank, count_past}
 use Rattle.loads.proofs.Weights.{count_insert}
 use Rattle.marking.specs.declared.marks.Marks.{Marks}
 use Rattle.marking.specs.Marks.{occurs, AlphaIs, BetaIs, GammaSays, SigmaSays, Marked}
-use Rattle.marking.specs.Bounds.{Iff, Loaded, IsFloor, left_most, right_least}
-use Rattle.marking.proofs.Counts.{Same, AtMost, one, Shifted, Moved, Alpha, Beta, NoBeta, Gamma, Sigma}
-use Rattle.marking.proofs.Order.{above_not_at_most}
-use Rattle.marking.proofs.Shifts.{no_alpha, under_alpha, over_alpha, at_alpha_spare, at_alpha_no_beta, at_alpha_over_beta, at_alpha_no_gamma, at_alpha_under_beta, at_beta_short, at_beta_sigma, at_beta_no_sigma}
+use Rattle.marking.specs.Bounds.{Iff, Loaded, IsFloor}
+use Rattle.marking.proofs.Counts.{AtMost, one, Shifted, Moved, Alpha, Beta, NoBeta, Gamma, Sigma}
+use Rattle.marking.proofs.Shifts.{at_alpha_spare, at_alpha_no_beta, at_alpha_over_beta, at_alpha_no_gamma, at_alpha_under_beta, at_beta_short, at_beta_sigma, at_beta_no_sigma}
 
 -- loads compare as their counts do
 pub by_loads : (xs ys : List ℕ) → NotHeavier by_rank xs ys → AtMost (λ h. count by_rank h xs) (λ h. count by_rank h ys)

@@ -1,5 +1,5 @@
 -- Rows of cells: who is in one, and what a choice makes of one.
-use Rattle.std.proofs.Common.{◌≡◌, ℕ, zero, suc, ◌+◌, ◌-◌, ◌<◌, ◌≤◌, Bool, true, false, ◌||◌, eqb, ◌⊎◌, List, [], ◌∷◌, ◌++◌, map, length, get_or, sym, refl, ap, ◌∙◌, ap₂, inl, inr, arith, length-append}
+use Rattle.std.proofs.Common.{◌≡◌, ℕ, zero, suc, ◌+◌, ◌-◌, ◌<◌, ◌≤◌, Bool, true, false, ◌||◌, eqb, ◌⊎◌, List, [], ◌∷◌, ◌++◌, map, length, get_or, sym, refl, ◌∙◌, ap₂, inl, inr, arith, length-append}
 use Rattle.loads.specs.declared.grades.Standing.TheVariants.{Higher}
 use Rattle.loads.specs.Kinds.{by_rank}
 use Rattle.loads.specs.Laws.{NoneHigher}
@@ -11,7 +11,7 @@ use Rattle.rules.specs.Ends.{but}
 use Rattle.rules.specs.Rows.{Apart}
 use Rattle.rules.specs.Rules.{Has}
 use Rattle.std.proofs.lemmas.List.{get_or_append_left, get_or-append-add, get_or-append_right}
-use Rattle.std.proofs.lemmas.Bool.{cases_eq, cases_Bool, cases_lt, cond-true, cond-false, eqb-true, eq-eqb, ne_eqb, or_left, or_right, or_cases, false≢true}
+use Rattle.std.proofs.lemmas.Bool.{cases_Bool, cases_lt, cond-true, cond-false, eqb-true, eq-eqb, ne_eqb, or_left, or_right, or_cases, false≢true}
 
 abbrev pub memb : ℕ → List ℕ → Bool
 memb c [] = false

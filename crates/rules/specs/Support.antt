@@ -1,5 +1,5 @@
 -- Which ranks a rule supports: the best choice decides, and one pass over the rule is enough.
-use Rattle.std.specs.Prelude.{ℕ, ◌≤◌, List, ◌++◌, map}
+use Rattle.std.specs.Prelude.{ℕ, ◌≤◌, ◌++◌, map}
 use Rattle.domains.specs.Sets.{In}
 use Rattle.loads.specs.Kinds.{by_rank}
 use Rattle.loads.specs.Loads.{NotHeavier}

@@ -1,5 +1,5 @@
 -- A list of which each element has a property, and what a write leaves.
-use Rattle.std.proofs.Common.{◌≡◌, ℕ, zero, suc, ◌+◌, ◌*◌, ◌/◌, ◌%◌, ◌^◌, ◌<◌, ◌≤◌, Bool, true, false, eqb, ◌⊎◌, List, [], ◌∷◌, length, get_or, take, set, replicate, MatchBool, sym, refl, ap, ◌∙◌, subst, inl, inr, mod-lt, suc-mul, div-add-mod', zero-mul, div-mul-le_self, arith, pow_pos}
+use Rattle.std.proofs.Common.{◌≡◌, ℕ, zero, suc, ◌+◌, ◌*◌, ◌/◌, ◌%◌, ◌^◌, ◌<◌, ◌≤◌, Bool, true, false, eqb, ◌⊎◌, List, [], ◌∷◌, length, get_or, take, set, MatchBool, sym, refl, ap, ◌∙◌, subst, inl, inr, mod-lt, suc-mul, div-add-mod', zero-mul, div-mul-le_self, arith, pow_pos}
 use native.Mathlib.Nat.{div-eq_of_lt}
 use Rattle.domains.specs.Sets.{In, from}
 use Rattle.domains.proofs.Ranks.{none_above, none_in_zero, in_from, same_set}

@@ -1,5 +1,5 @@
 -- The meaning of a store: a mask for each cell, a width, the sets that its kind can hold, and what a write leaves as it was.
-use Rattle.std.specs.Prelude.{◌≡◌, ℕ, ◌^◌, ◌<◌, ◌≤◌, List, length, set, replicate, slice_index}
+use Rattle.std.specs.Prelude.{◌≡◌, ℕ, ◌^◌, ◌<◌, ◌≤◌, List, length, replicate, slice_index}
 use Rattle.domains.specs.Sets.{up_to, from, full_scale}
 use Rattle.stores.specs.declared.faults.WriteFault.{WriteFault}
 use Rattle.stores.specs.declared.faults.WriteFault.TheVariants.{NoCell, RankPastScale, NotHeld}

@@ -1,8 +1,8 @@
 -- What any list of calls leaves of a trial that is open.
-use Rattle.std.proofs.Common.{◌≡◌, ℕ, ◌+◌, ◌<◌, ◌≤◌, List, [], ◌∷◌, ◌++◌, map, length, get_or, take, Ok, Err, Result, sym, refl, ap, ◌∙◌, subst, arith, MatchResult}
+use Rattle.std.proofs.Common.{◌≡◌, ℕ, ◌+◌, ◌<◌, ◌≤◌, List, [], ◌∷◌, ◌++◌, length, get_or, take, Ok, Err, Result, sym, refl, ap, ◌∙◌, subst, arith}
 use Rattle.std.proofs.lemmas.List.{take_more}
-use Rattle.trials.specs.Trials.{Trial, trials_of, Numbered, NotAmong, Ends}
-use Rattle.trials.specs.TrialStores.{of_cells, opened, open_trials, TrialsApart, OpenAnswers, KeepAnswers, Sound, Undone, UndoAnswers}
+use Rattle.trials.specs.Trials.{Trial, trials_of, NotAmong, Ends}
+use Rattle.trials.specs.TrialStores.{opened, open_trials, TrialsApart, OpenAnswers, KeepAnswers, Sound, Undone, UndoAnswers}
 use Rattle.trials.specs.Rehearsals.{Step, Ran, Back}
 use Rattle.trials.specs.declared.trial_store.TrialStore.{TrialStore}
 use Rattle.trials.specs.declared.faults.TrialFault.{TrialFault}

@@ -1,5 +1,5 @@
 -- A cap of a cell, and a cap in a trial.
-use Rattle.std.proofs.Common.{◌≡◌, ℕ, ◌^◌, ◌<◌, ◌≤◌, Bool, true, false, List, length, get_or, set, is_ok, Ok, Err, MatchBool, Result, sym, refl, ap, ◌∙◌, subst, arith, MatchResult}
+use Rattle.std.proofs.Common.{◌≡◌, ℕ, ◌^◌, ◌<◌, Bool, true, false, List, length, get_or, set, is_ok, Ok, Err, MatchBool, Result, ap, ◌∙◌, subst, arith, MatchResult}
 use Rattle.domains.specs.Sets.{up_to}
 use Rattle.stores.specs.Stores.{Accepted, Refused}
 use Rattle.stores.specs.declared.faults.WriteFault.{WriteFault}

@@ -1,5 +1,5 @@
 -- A cell is capped at a rank: it keeps the part of its set up to that rank, where that part has a rank.
-use Rattle.std.specs.Prelude.{◌≡◌, ℕ, ◌<◌, ◌≤◌, ◌⊎◌, List, length, set, slice_index, slice_set}
+use Rattle.std.specs.Prelude.{◌≡◌, ℕ, ◌<◌, ◌≤◌, ◌⊎◌, List, length, slice_index, slice_set}
 use Rattle.domains.specs.Sets.{up_to}
 
 -- there is such a cell, and its part up to the rank has a rank

@@ -1,7 +1,7 @@
 -- What opening a trial and ending one do to the list of the open trials.
-use Rattle.std.proofs.Common.{arith, sym, subst, ap, ap₂, ◌∙◌, inl, inr, append_assoc}
-use Rattle.std.specs.Prelude.{◌≡◌, ℕ, zero, suc, ◌+◌, ◌<◌, ◌≤◌, ◌⊎◌, List, [], ◌∷◌, ◌++◌, map, length, drop, ◌≢◌, slice_index_or, refl}
-use Rattle.std.proofs.lemmas.List.{map-append, length-map}
+use Rattle.std.proofs.Common.{arith, sym, subst, ap, ◌∙◌, append_assoc}
+use Rattle.std.specs.Prelude.{◌≡◌, ℕ, ◌+◌, ◌<◌, List, [], ◌∷◌, ◌++◌, map, drop, ◌≢◌, slice_index_or}
+use Rattle.std.proofs.lemmas.List.{map-append}
 use Rattle.std.specs.List.{AllByRecursion}
 use Rattle.trials.specs.Trials.{Trial, Numbered, NotAmong, Opens, Ends}
 use Rattle.trials.specs.TrialStores.{of_cells, Apart}

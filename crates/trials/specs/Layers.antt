@@ -1,12 +1,12 @@
 -- The trials of a store by those of its table.
-use Rattle.std.proofs.Common.{arith, sym, subst, ap, ap₂, ◌∙◌}
-use Rattle.std.specs.Prelude.{◌≡◌, ℕ, ◌+◌, ◌<◌, ◌≤◌, List, [], ◌∷◌, ◌++◌, map, length, take, Ok, Err, Result, MatchResult, slice_set, refl}
+use Rattle.std.proofs.Common.{arith, sym, subst, ap, ◌∙◌}
+use Rattle.std.specs.Prelude.{◌≡◌, ℕ, List, [], ◌∷◌, map, length, take, Ok, Err, Result, MatchResult, slice_set, refl}
 use Rattle.std.specs.List.{AllByRecursion}
 use Rattle.std.proofs.lemmas.List.{length-set, length-map}
 use Rattle.stores.specs.Stores.{Savable, Accepted, Refused}
 use Rattle.stores.specs.declared.faults.WriteFault.{WriteFault}
 use Rattle.trials.specs.Trials.{Trial, trial, trials_of, NotAmong, Opens, CannotOpen, Ends, CannotEnd}
-use Rattle.trials.specs.TrialStores.{of_cells, opened, open_trials, Apart, Sound, Rests, Undone, Kept}
+use Rattle.trials.specs.TrialStores.{of_cells, opened, open_trials, Apart, Sound, Rests}
 use Rattle.trials.specs.declared.saved.Saved.{Saved}
 use Rattle.trials.specs.declared.saved.TrialTable.{TrialTable}
 use Rattle.trials.specs.declared.trial_store.TrialStore.{TrialStore}

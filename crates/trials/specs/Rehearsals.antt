@@ -1,5 +1,5 @@
 -- A list of calls on a store with trials, and what they do, one after another.
-use Rattle.std.specs.Prelude.{◌≡◌, ℕ, ◌+◌, List, [], ◌∷◌, length, set, Ok, Result, MatchResult, slice_set}
+use Rattle.std.specs.Prelude.{◌≡◌, ℕ, ◌+◌, List, [], ◌∷◌, length, Ok, Result, MatchResult, slice_set}
 use Rattle.stores.specs.Stores.{Accepted, Refused}
 use Rattle.stores.specs.declared.faults.WriteFault.{WriteFault}
 use Rattle.trials.specs.Trials.{NotAmong, CannotOpen}

@@ -1,5 +1,5 @@
 -- A store with trials: the open trials, the newest first, each with the cells as they were when it was opened.
-use Rattle.std.specs.Prelude.{◌≡◌, ℕ, ◌+◌, ◌≤◌, List, map, length, take, Result, MatchResult}
+use Rattle.std.specs.Prelude.{◌≡◌, ℕ, ◌≤◌, List, map, length, take, Result, MatchResult}
 use Rattle.std.specs.List.{AllByRecursion}
 use Rattle.stores.specs.Stores.{Savable}
 use Rattle.trials.specs.Trials.{Trial, trials_of, Opens, CannotOpen, Ends, CannotEnd}

@@ -1,6 +1,6 @@
-use Rattle.std.proofs.Common.{◌≡◌, ℕ, ◌-◌, ◌^◌, ◌<◌, ◌≤◌, sym, ap, subst, arith, pow_mono}
+use Rattle.std.proofs.Common.{ℕ, ◌-◌, ◌^◌, ◌<◌, ◌≤◌, sym, ap, subst, arith, pow_mono}
 use Rattle.std.proofs.lemmas.Nat.{one_shl, pow_below}
-use Rattle.domains.specs.Sets.{Has, full_scale}
+use Rattle.domains.specs.Sets.{Has}
 use Rattle.domains.proofs.Ranks.{in_ones}
 use Rattle.domains.proofs.masks.full_mask.Goals as goal
 

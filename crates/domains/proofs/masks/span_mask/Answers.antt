@@ -1,4 +1,4 @@
-use Rattle.std.proofs.Common.{◌≡◌, ℕ, ◌^◌, ◌<◌, ◌≤◌, sym, ap, ◌∙◌, subst, arith}
+use Rattle.std.proofs.Common.{◌≡◌, ℕ, ◌≤◌, sym, ap, ◌∙◌, subst, arith}
 use Rattle.domains.specs.Sets.{from, run, Has}
 use Rattle.domains.proofs.Ranks.{in_run, run_pos, run_below}
 use Rattle.domains.proofs.masks.span_mask.Goals as goal

@@ -1,4 +1,4 @@
-use Rattle.std.proofs.Common.{◌≡◌, ℕ, ◌+◌, List, [], ◌∷◌, ◌++◌, take, drop, vec_items, vec_len, sym, refl, ap, ◌∙◌, subst}
+use Rattle.std.proofs.Common.{◌≡◌, ◌+◌, [], ◌∷◌, ◌++◌, take, drop, vec_items, vec_len, sym, refl, ap, ◌∙◌, subst}
 use Rattle.load_text.specs.Lines.{words_of}
 use Rattle.load_text.specs.Text.{Written, BadEntryAt}
 use Rattle.load_text.proofs.Gathering.{heads, bad_entry, one_more, all_read}

@@ -1,6 +1,5 @@
-use Rattle.std.proofs.Common.{◌≡◌, ◌+◌, true, false, List, [], ◌∷◌, ◌++◌, length, take, Option, sym, refl, ◌∙◌, subst, arith, length-take, take_all}
+use Rattle.std.proofs.Common.{◌≡◌, ◌+◌, true, false, List, [], ◌∷◌, ◌++◌, take, sym, refl, subst, arith, length-take, take_all}
 use Rattle.loads.specs.Weighing.{seen, below, Top}
-use Rattle.loads.specs.declared.weighing.Held.{Held}
 use Rattle.loads.proofs.Descent.{one_more, top_skips, top_raised, times_le}
 use Rattle.loads.proofs.weighing.top_below.Goals as goal
 use Rattle.loads.proofs.weighing.top_below.Goals.{then-is_below, else-is_below}

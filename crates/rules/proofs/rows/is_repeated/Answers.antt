@@ -1,4 +1,4 @@
-use Rattle.std.proofs.Common.{◌++◌, sym, ◌∙◌, arith, length-append}
+use Rattle.std.proofs.Common.{◌++◌, sym, ◌∙◌, length-append}
 use Rattle.rules.proofs.Repeats.{one_more, none}
 use Rattle.rules.proofs.rows.is_repeated.Goals as goal
 

@@ -1,4 +1,4 @@
-use Rattle.std.proofs.Common.{◌≡◌, ℕ, sym, ◌∙◌, subst, arith}
+use Rattle.std.proofs.Common.{◌≡◌, sym, ◌∙◌, subst}
 use Rattle.domains.specs.Sets.{run, Gapless}
 use Rattle.domains.proofs.Ranks.{gapless_run, run_gapless}
 use Rattle.stores.proofs.Cells.{when_equal}

@@ -1,4 +1,4 @@
-use Rattle.std.proofs.Common.{◌≡◌, ◌^◌, ◌<◌, ◌≤◌, ◌⊎◌, refl, inl, inr, ⊎_elim, arith, pow_mono}
+use Rattle.std.proofs.Common.{◌^◌, ◌≤◌, refl, ⊎_elim, arith, pow_mono}
 use Rattle.stores.proofs.copying.put_back.Goals as goal
 
 pub returns-in_default : goal.returns-in_default

@@ -1,4 +1,4 @@
-use Rattle.std.proofs.Common.{◌≡◌, ℕ, ◌<◌, ◌≤◌, length, get_or, take, set, sym, refl, ap, ◌∙◌, subst, arith, rules}
+use Rattle.std.proofs.Common.{ℕ, ◌<◌, ◌≤◌, length, get_or, sym, ◌∙◌, subst, arith, rules}
 use Rattle.stores.specs.Stores.{Holdable}
 use Rattle.stores.proofs.Cells.{same_front, set_next}
 use Rattle.stores.proofs.copying.restore.Goals as goal

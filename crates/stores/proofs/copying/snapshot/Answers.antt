@@ -1,4 +1,4 @@
-use Rattle.std.proofs.Common.{◌≡◌, ℕ, ◌<◌, ◌≤◌, length, get_or, sym, refl, subst, arith}
+use Rattle.std.proofs.Common.{◌≤◌, length, sym, refl, subst, arith}
 use Rattle.stores.specs.Stores.{Holdable}
 use Rattle.stores.proofs.Cells.{same_front}
 use Rattle.stores.proofs.copying.snapshot.Goals as goal

@@ -1,4 +1,4 @@
-use Rattle.std.proofs.Common.{◌≡◌, ℕ, ◌+◌, ◌^◌, ◌<◌, ◌≤◌, Bool, length, get_or, MatchBool, sym, ap, ◌∙◌, subst, arith}
+use Rattle.std.proofs.Common.{◌≡◌, ℕ, ◌+◌, ◌^◌, ◌<◌, Bool, length, get_or, MatchBool, sym, ap, ◌∙◌, subst, arith}
 use native.Mathlib.Nat.{mod-le}
 use Rattle.domains.specs.Sets.{up_to}
 use Rattle.trials.specs.Caps.{CannotCap, Capped}

@@ -1,4 +1,4 @@
-use Rattle.std.proofs.Common.{◌≡◌, List, subst, arith, take_all}
+use Rattle.std.proofs.Common.{List, subst, arith, take_all}
 use Rattle.trials.specs.Rehearsals.{Step, Ran}
 use Rattle.trials.specs.declared.rehearsal.TrialCall.{TrialCall}
 use Rattle.trials.proofs.Calls.{ran_next}

@@ -1,4 +1,4 @@
-use Rattle.std.proofs.Common.{◌≡◌, ℕ, ◌^◌, ◌<◌, length, refl, ◌∙◌, arith, length-take}
+use Rattle.std.proofs.Common.{◌^◌, ◌<◌, length, refl, ◌∙◌, arith, length-take}
 use Rattle.std.proofs.lemmas.List.{length-set}
 use Rattle.stores.proofs.Cells.{each_set, take_set_in}
 use Rattle.stores.proofs.bit_store.BitStore.put.Goals as goal

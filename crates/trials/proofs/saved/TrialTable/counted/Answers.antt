@@ -1,4 +1,4 @@
-use Rattle.std.proofs.Common.{◌≡◌, sym}
+use Rattle.std.proofs.Common.{sym}
 use Rattle.trials.proofs.Places.{count_below, numbered_below}
 use Rattle.trials.proofs.saved.TrialTable.counted.Goals as goal
 

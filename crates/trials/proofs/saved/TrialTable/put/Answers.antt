@@ -1,6 +1,6 @@
-use Rattle.std.proofs.Common.{◌≡◌, ℕ, ◌<◌, List, ◌∷◌, length, refl, ap, ◌∙◌, arith}
+use Rattle.std.proofs.Common.{◌≡◌, ℕ, ◌<◌, ◌∷◌, length, refl, ap, ◌∙◌, arith}
 use Rattle.std.proofs.lemmas.List.{length-set}
-use Rattle.trials.specs.Trials.{Trial, trial, trials_below}
+use Rattle.trials.specs.Trials.{trial, trials_below}
 use Rattle.trials.proofs.Places.{count_below, below_put, some_put, fresh_put, rising_put}
 use Rattle.trials.proofs.saved.TrialTable.put.Goals as goal
 

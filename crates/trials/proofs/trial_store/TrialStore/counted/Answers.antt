@@ -1,4 +1,4 @@
-use Rattle.std.proofs.Common.{◌≡◌, length, sym, ◌∙◌}
+use Rattle.std.proofs.Common.{length, sym, ◌∙◌}
 use lib.ListN.{length-map}
 use Rattle.trials.specs.Trials.{trials_of}
 use Rattle.trials.specs.TrialStores.{of_cells}

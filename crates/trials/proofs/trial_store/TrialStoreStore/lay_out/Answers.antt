@@ -1,4 +1,4 @@
-use Rattle.std.proofs.Common.{◌≡◌, sym, refl, ap, subst}
+use Rattle.std.proofs.Common.{sym, refl, ap, subst}
 use Rattle.std.proofs.lemmas.Result.{err_from_is_err_and}
 use Rattle.trials.specs.TrialStores.{open_trials, Sound}
 use Rattle.trials.proofs.trial_store.TrialStoreStore.lay_out.Goals as goal
