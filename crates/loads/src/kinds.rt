@@ -4,12 +4,11 @@ ghost use Rattle.std.specs.Cmp.{partial_order_from_own_ties};
 ghost use Rattle.std.specs.Cmp.Rules.{comparing};
 ghost use Rattle.std.specs.Ordering.{as_partial_cmp};
 ghost use Rattle.std.specs.declared.cmp.Ordering.TheVariants.{Less};
-ghost use Rattle.loads.specs.Kinds.{by_hand};
+ghost use Rattle.loads.specs.Kinds.{by_hand, points_order};
 ghost use Rattle.std.proofs.Common.{rules};
 
-use std::cmp::Ordering;
-
 use crate::grades::Grade;
+use std::cmp::Ordering;
 
 // A mark given by a reader of the register: fewer points are lower.
 #[derive(Clone, Copy, PartialEq, Eq, PartialOrd, Ord, Debug)]
@@ -18,7 +17,7 @@ pub struct Points {
 }
 
 impl Grade for Points {
-    ghost order = { Prim.search rules };
+    ghost order = { points_order };
 }
 
 // A handwriting: its script class and its year. A lower class is lower; within a class the later year is lower.

@@ -4,9 +4,8 @@ ghost use Rattle.loads.specs.Laws.{Weighs, Replaced, Exchange, NoMember};
 ghost use Rattle.loads.specs.Loads.{NotHeavier};
 ghost use Rattle.loads.specs.Weighing.{below, seen, times, Raised, Top, HigherOf, Peak, Decided, decided_by, distinct, above};
 
-use std::cmp::Ordering;
-
 use crate::grades::Grade;
+use std::cmp::Ordering;
 
 // What the left load is against the right.
 #[derive(Clone, Copy, PartialEq, Eq, Debug)]
