@@ -16,7 +16,7 @@ use Rattle.loads.proofs.Counting.{one, by_standing_lem, is_lower_lem, count_push
 pub one_more : {G : Type 0} (xs : List G) (i : ℕ) (x : G) → i < length xs → x ≡ get_or xs i x → take (i + 1) xs ≡ take i xs ++ (x ∷ [])
 one_more xs i x within read = take_more xs i x within ∙ ap (λ y. take i xs ++ (y ∷ [])) (sym read)
 
-module _ {G : Type 0} (cmp : G → G → Ordering) (o : Order cmp) where
+module _ {G : Type 0} {cmp : G → G → Ordering} (o : Order cmp) where
   -- a grade below the limit is not one that is not
   outside : (limit : Option G) (h x : G) → below cmp limit x ≡ false → below cmp limit h ≡ true → one (cmp h x) ≡ 0
   outside limit h x out b = one_apart cmp o h x (λ e. both_ways (below cmp limit x) out (subst (λ (y : G). below cmp limit y ≡ true) e b))
@@ -67,9 +67,9 @@ module _ {G : Type 0} (cmp : G → G → Ordering) (o : Order cmp) where
         }
 
   -- a member below the limit raises the top
-  pub top_raised : (limit : Option G) (xs : List G) (t : Option (Held G)) (x k : G) (n : ℕ) → below cmp limit x ≡ true → Top cmp limit xs t → Raised cmp t x k n → TopIs cmp limit (xs ++ (x ∷ [])) k n
-  top_raised limit xs None x k n b hi r = rw (r.0, r.1) (top_first limit xs x b hi)
-  top_raised limit xs (Some t) x k n b hi r =
+  pub top_raised : (limit : Option G) (xs : List G) (t : Option (Held G)) (x : G) {k : G} {n : ℕ} → below cmp limit x ≡ true → Top cmp limit xs t → Raised cmp t x k n → TopIs cmp limit (xs ++ (x ∷ [])) k n
+  top_raised limit xs None x b hi r = rw (r.0, r.1) (top_first limit xs x b hi)
+  top_raised limit xs (Some t) x b hi r =
       by_standing_lem (cmp x g)
       (λ e. let s = rw e at r in rw (s.0, s.1) (top_lower limit xs g m x b hi e))
       (λ e. let s = rw e at r in rw (s.0, s.1) (top_same limit xs g m x b hi e))
@@ -87,8 +87,8 @@ module _ {G : Type 0} (cmp : G → G → Ordering) (o : Order cmp) where
   times_le limit xs (Some t) hi = omega (arith, hi.count_is, count_le_length cmp t.grade.now xs)
 
   -- a top that is higher than the other load's, or alone
-  pub peak_left : (limit : Option G) (xs ys : List G) (g : G) (m : ℕ) → TopIs cmp limit xs g m → ((h : G) → (g ≡ h) ⊎ (cmp g h ≡ Less) → below cmp limit h ≡ true → count cmp h ys ≡ 0) → PeakIs cmp limit xs ys g m 0
-  peak_left limit xs ys g m hi none = record {
+  pub peak_left : {limit : Option G} {xs ys : List G} {g : G} {m : ℕ} → TopIs cmp limit xs g m → ((h : G) → (g ≡ h) ⊎ (cmp g h ≡ Less) → below cmp limit h ≡ true → count cmp h ys ≡ 0) → PeakIs cmp limit xs ys g m 0
+  peak_left {limit} {xs} {ys} {g} hi none = record {
     under = hi.under;
     left_is = hi.count_is;
     right_is = sym (none g (inl refl) hi.under);
@@ -97,8 +97,8 @@ module _ {G : Type 0} (cmp : G → G → Ordering) (o : Order cmp) where
     none_right = λ h l b. none h (inr l) b;
   }
 
-  pub peak_turned : (limit : Option G) (xs ys : List G) (g : G) (m n : ℕ) → PeakIs cmp limit xs ys g m n → PeakIs cmp limit ys xs g n m
-  peak_turned limit xs ys g m n p = record {
+  pub peak_turned : {limit : Option G} {xs ys : List G} {g : G} {m n : ℕ} → PeakIs cmp limit xs ys g m n → PeakIs cmp limit ys xs g n m
+  peak_turned p = record {
     under = p.under;
     left_is = p.right_is;
     right_is = p.left_is;
@@ -107,29 +107,29 @@ module _ {G : Type 0} (cmp : G → G → Ordering) (o : Order cmp) where
     none_right = p.none_left;
   }
 
-  pub peak_alone : (limit : Option G) (xs ys : List G) (g : G) (m : ℕ) → TopIs cmp limit xs g m → NoTop cmp limit ys → PeakIs cmp limit xs ys g m 0
-  peak_alone limit xs ys g m hi none = peak_left limit xs ys g m hi (λ h _ b. none h b)
+  pub peak_alone : {limit : Option G} {xs ys : List G} {g : G} {m : ℕ} → TopIs cmp limit xs g m → NoTop cmp limit ys → PeakIs cmp limit xs ys g m 0
+  peak_alone hi none = peak_left hi (λ h _ b. none h b)
 
   -- a top above the other load's top
-  peak_over : (limit : Option G) (xs ys : List G) (g k : G) (m n : ℕ) → TopIs cmp limit xs g m → TopIs cmp limit ys k n → cmp k g ≡ Less → PeakIs cmp limit xs ys g m 0
-  peak_over limit xs ys g k m n hi lo e = peak_left limit xs ys g m hi (λ h w b. lo.none_between h (over h w) b)
+  peak_over : {limit : Option G} {xs ys : List G} {g k : G} {m n : ℕ} → TopIs cmp limit xs g m → TopIs cmp limit ys k n → cmp k g ≡ Less → PeakIs cmp limit xs ys g m 0
+  peak_over {limit} {xs} {ys} {g} {k} hi lo e = peak_left hi (λ h w b. lo.none_between h (over h w) b)
     where
       over : (h : G) → (g ≡ h) ⊎ (cmp g h ≡ Less) → cmp k h ≡ Less
       over h (inl same) = subst (λ (y : G). cmp k y ≡ Less) same e
       over h (inr l) = o.lower k g h e l
 
-  pub peak_both : (limit : Option G) (xs ys : List G) (l r : Held G) (t : Tally G) → TopIs cmp limit xs l.grade.now l.count → TopIs cmp limit ys r.grade.now r.count → HigherOf cmp l r t → PeakIs cmp limit xs ys t.grade.now t.left t.right
-  peak_both limit xs ys l r t hi lo h =
+  pub peak_both : {limit : Option G} {xs ys : List G} (l r : Held G) (t : Tally G) → TopIs cmp limit xs l.grade.now l.count → TopIs cmp limit ys r.grade.now r.count → HigherOf cmp l r t → PeakIs cmp limit xs ys t.grade.now t.left t.right
+  peak_both {limit} {xs} {ys} l r t hi lo h =
       by_standing_lem (cmp l.grade.now r.grade.now)
       (λ e. let s = rw e at h in
       rw (s.0, s.1, s.2)
-      (peak_turned limit ys xs r.grade.now r.count 0 (peak_over limit ys xs r.grade.now l.grade.now r.count l.count lo hi e)))
+      (peak_turned (peak_over lo hi e)))
       (λ e. let s = rw e at h in
       let same : l.grade.now ≡ r.grade.now = o.equal l.grade.now r.grade.now e in
       rw (s.0, s.1, s.2) (peak_same same))
       (λ e. let s = rw e at h in
       rw (s.0, s.1, s.2)
-      (peak_over limit xs ys l.grade.now r.grade.now l.count r.count hi lo (below_higher cmp o l.grade.now r.grade.now e)))
+      (peak_over hi lo (below_higher cmp o l.grade.now r.grade.now e)))
     where
       peak_same : l.grade.now ≡ r.grade.now → PeakIs cmp limit xs ys l.grade.now l.count r.count
       peak_same same =
@@ -165,17 +165,17 @@ abbrev pub grades_passed : {G : Type 0} → (G → G → Ordering) → Option G 
 grades_passed cmp None xs = 0
 grades_passed cmp (Some g) xs = distinct cmp (passed cmp (Some g)) xs
 
-module _ {G : Type 0} (cmp : G → G → Ordering) (o : Order cmp) where
+module _ {G : Type 0} {cmp : G → G → Ordering} (o : Order cmp) where
   agrees_above : (limit : Option G) (xs ys : List G) (g : G) → NoneBetween cmp g limit xs → NoneBetween cmp g limit ys → Agreed cmp limit xs ys → (h : G) → cmp g h ≡ Less → count cmp h xs ≡ count cmp h ys
   agrees_above limit xs ys g p q same h l = by_test (below cmp limit h) (λ b. p h l b ∙ sym (q h l b)) (λ b. same h b)
 
   -- a peak of which the loads hold different numbers decides
-  pub decided_at : (limit : Option G) (xs ys : List G) (g : G) (m n : ℕ) → PeakIs cmp limit xs ys g m n → Agreed cmp limit xs ys → (m ≡ n → ⊥) → DecidedAt cmp xs ys g m n
-  decided_at limit xs ys g m n p same apart = record {
+  pub decided_at : {limit : Option G} {xs ys : List G} {g : G} {m n : ℕ} → PeakIs cmp limit xs ys g m n → Agreed cmp limit xs ys → (m ≡ n → ⊥) → DecidedAt cmp xs ys g m n
+  decided_at p same apart = record {
     left_is = p.left_is;
     right_is = p.right_is;
     differ = apart;
-    agree = agrees_above limit xs ys g p.none_left p.none_right same;
+    agree = agrees_above _ _ _ _ p.none_left p.none_right same;
   }
 
   -- where no peak is left, the loads are equal
@@ -183,10 +183,10 @@ module _ {G : Type 0} (cmp : G → G → Ordering) (o : Order cmp) where
   all_agree limit xs ys p q same h = by_test (below cmp limit h) (λ b. p h b ∙ sym (q h b)) (λ b. same h b)
 
   -- one grade further down
-  pub agreed_more : (limit : Option G) (xs ys : List G) (g : G) (m n : ℕ) → PeakIs cmp limit xs ys g m n → m ≡ n → Agreed cmp limit xs ys → Agreed cmp (Some g) xs ys
-  agreed_more limit xs ys g m n p e same h out =
+  pub agreed_more : {limit : Option G} {xs ys : List G} {g : G} {m n : ℕ} → PeakIs cmp limit xs ys g m n → m ≡ n → Agreed cmp limit xs ys → Agreed cmp (Some g) xs ys
+  agreed_more {limit} {xs} {ys} {g} p e same h out =
       by_standing_lem (cmp g h)
-      (λ l. agrees_above limit xs ys g p.none_left p.none_right same h l)
+      (λ l. agrees_above _ _ _ _ p.none_left p.none_right same h l)
       (λ s. subst (λ (k : G). count cmp k xs ≡ count cmp k ys) (o.equal g h s) (sym p.left_is ∙ e ∙ p.right_is))
       (λ u. absurd (both_ways (is_lt (cmp h g)) out (ap is_lt (below_higher cmp o g h u))))
 
@@ -209,8 +209,8 @@ module _ {G : Type 0} (cmp : G → G → Ordering) (o : Order cmp) where
   under_all limit g b (x ∷ xs) = omega (arith, under_here limit g b x, under_all limit g b xs)
 
   -- the walk down ends
-  pub under_falls : (limit : Option G) (xs ys : List G) (g : G) (m n : ℕ) → PeakIs cmp limit xs ys g m n → m ≡ n → under cmp (Some g) xs < under cmp limit xs
-  under_falls limit xs ys g m n p e = omega (arith, p.some, p.left_is, under_all limit g p.under xs)
+  pub under_falls : {limit : Option G} {xs ys : List G} {g : G} {m n : ℕ} → PeakIs cmp limit xs ys g m n → m ≡ n → under cmp (Some g) xs < under cmp limit xs
+  under_falls {limit} {xs} {ys} {g} p e = omega (arith, p.some, p.left_is, under_all limit g p.under xs)
 
   -- tests that agree on the members of a load count its different grades alike
   distinct_like : (p q : G → Bool) (xs : List G) → ((x : G) → 0 < count cmp x xs → p x ≡ q x) → distinct cmp p xs ≡ distinct cmp q xs
@@ -276,8 +276,8 @@ module _ {G : Type 0} (cmp : G → G → Ordering) (o : Order cmp) where
       at_most_one false b = omega arith
 
   -- one grade further down, one more grade is passed
-  pub passed_more : (limit : Option G) (xs ys : List G) (g : G) (m n : ℕ) → PeakIs cmp limit xs ys g m n → m ≡ n → (grades_passed cmp (Some g) xs ≡ grades_passed cmp limit xs + 1) × (grades_passed cmp limit xs < length xs)
-  passed_more limit xs ys g m n p e = (omega (arith, grows, grades_passed_lem limit xs), omega (arith, grows, grades_passed_lem limit xs, distinct_le (passed cmp (Some g)) xs))
+  pub passed_more : {limit : Option G} {xs ys : List G} {g : G} {m n : ℕ} → PeakIs cmp limit xs ys g m n → m ≡ n → (grades_passed cmp (Some g) xs ≡ grades_passed cmp limit xs + 1) × (grades_passed cmp limit xs < length xs)
+  passed_more {limit} {xs} {ys} {g} p e = (omega (arith, grows, grades_passed_lem limit xs), omega (arith, grows, grades_passed_lem limit xs, distinct_le (passed cmp (Some g)) xs))
     where
       held : eqb (count cmp g xs) 0 ≡ false
       held = ne_eqb (count cmp g xs) 0 (λ z. omega (arith, z, p.some, p.left_is, e))
@@ -300,8 +300,8 @@ module _ {G : Type 0} (cmp : G → G → Ordering) (o : Order cmp) where
   passed_all limit xs none =
       grades_passed_lem limit xs ∙ distinct_like (passed cmp limit) (λ _. true) xs (λ x some. ap not (by_test (below cmp limit x) (λ b. absurd (omega (arith, some, none x b))) (λ b. b)))
 
-  pub passed_above : (limit : Option G) (xs ys : List G) (g : G) (m n : ℕ) → PeakIs cmp limit xs ys g m n → grades_passed cmp limit xs ≡ distinct cmp (λ x. is_lt (cmp g x)) xs
-  passed_above limit xs ys g m n p = grades_passed_lem limit xs ∙ distinct_like (passed cmp limit) (λ x. is_lt (cmp g x)) xs same
+  pub passed_above : {limit : Option G} {xs ys : List G} {g : G} {m n : ℕ} → PeakIs cmp limit xs ys g m n → grades_passed cmp limit xs ≡ distinct cmp (λ x. is_lt (cmp g x)) xs
+  passed_above {limit} {xs} {ys} {g} p = grades_passed_lem limit xs ∙ distinct_like (passed cmp limit) (λ x. is_lt (cmp g x)) xs same
     where
       same : (x : G) → 0 < count cmp x xs → passed cmp limit x ≡ is_lt (cmp g x)
       same x some =

@@ -8,7 +8,7 @@ pub raised-requires : goal.raised-requires
 raised-requires g c =
     omega (
       arith,
-      times_le g.G.Ord.cmp g.met.G.Grade.order (seen c.args.limit) (take c.loop-x.x-index c.args.load.now) c.loop-x.top c.loop-x.invariant,
+      times_le g.met.G.Grade.order (seen c.args.limit) _ c.loop-x.top c.loop-x.invariant,
       length-take c.loop-x.x-index c.args.load.now,
     )
 
@@ -29,11 +29,11 @@ loop-x-preserved g c =
       | then-is_below w ↦
           let yes : below cmp limit x ≡ true = sym {b = below cmp limit x} w.if-is_below.ensures in
           subst (Top cmp limit (take i load ++ (x ∷ []))) (sym w.top-is)
-          (top_raised cmp o limit (take i load) c.loop-x.top x w.raised.result.grade.now w.raised.result.count yes c.loop-x.invariant w.raised.ensures)
+          (top_raised o limit (take i load) c.loop-x.top x yes c.loop-x.invariant w.raised.ensures)
       | else-is_below w ↦
           let no : below cmp limit x ≡ false = sym {b = below cmp limit x} w.if-is_below.ensures in
           subst (Top cmp limit (take i load ++ (x ∷ []))) (sym w.top-is)
-          (top_skips cmp o limit (take i load) c.loop-x.top x no c.loop-x.invariant)
+          (top_skips o limit (take i load) c.loop-x.top x no c.loop-x.invariant)
     ])
 
 pub returns : goal.returns
