@@ -1,16 +1,16 @@
 -- The top of a load below a limit, the peak of two loads, and the walk down by it.
 use Rattle.std.proofs.Common.{◌≡◌, ℕ, ◌+◌, ◌<◌, ◌≤◌, Bool, true, false, cond, not, eqb, ◌⊎◌, List, [], ◌∷◌, ◌++◌, length, get_or, take, Some, None, Option, sym, refl, ap, ◌∙◌, subst, inl, inr, arith}
 use Rattle.std.proofs.lemmas.List.{take_more}
-use Rattle.std.proofs.lemmas.Bool.{both_ways, ne_eqb}
+use Rattle.std.proofs.lemmas.Bool.{both_ways, ne_eqb, true≢false, false≢true}
 use Rattle.std.specs.declared.cmp.Ordering.{Ordering}
 use Rattle.std.specs.declared.cmp.Ordering.TheVariants.{Less, Equal as Same, Greater}
-use Rattle.std.specs.Ordering.{is_lt}
+use Rattle.std.specs.Ordering.{is_lt, is_gt}
 use Rattle.loads.specs.declared.weighing.Held.{Held}
 use Rattle.loads.specs.declared.weighing.Tally.{Tally}
 use Rattle.loads.specs.Grades.{Order}
 use Rattle.loads.specs.Loads.{count, Equal}
 use Rattle.loads.specs.Weighing.{below, NoneBetween, TopIs, NoTop, Top, times, Raised, PeakIs, HigherOf, DecidedAt, distinct}
-use Rattle.loads.proofs.Counting.{one, by_standing_lem, is_lower_lem, count_push, count_le_length, above_lower, below_higher, one_here, one_higher, one_apart}
+use Rattle.loads.proofs.Counting.{one, by_ordering, is_less, count_push, count_le_length, above_lower, below_higher, one_here, one_higher, one_apart}
 
 -- one member more of xs
 pub one_more : {G : Type 0} (xs : List G) (i : ℕ) (x : G) → i < length xs → x ≡ get_or xs i x → take (i + 1) xs ≡ take i xs ++ (x ∷ [])
@@ -70,7 +70,7 @@ module _ {G : Type 0} {cmp : G → G → Ordering} (o : Order cmp) where
   pub top_raised : (limit : Option G) (xs : List G) (t : Option (Held G)) (x : G) {k : G} {n : ℕ} → below cmp limit x ≡ true → Top cmp limit xs t → Raised cmp t x k n → TopIs cmp limit (xs ++ (x ∷ [])) k n
   top_raised limit xs None x b hi r = rw (r.0, r.1) (top_first limit xs x b hi)
   top_raised limit xs (Some t) x b hi r =
-      by_standing_lem (cmp x g)
+      by_ordering (cmp x g)
       (λ e. let s = rw e at r in rw (s.0, s.1) (top_lower limit xs g m x b hi e))
       (λ e. let s = rw e at r in rw (s.0, s.1) (top_same limit xs g m x b hi e))
       (λ e. let s = rw e at r in rw (s.0, s.1) (top_higher limit xs g m x b hi e))
@@ -120,7 +120,7 @@ module _ {G : Type 0} {cmp : G → G → Ordering} (o : Order cmp) where
 
   pub peak_both : {limit : Option G} {xs ys : List G} (l r : Held G) (t : Tally G) → TopIs cmp limit xs l.grade.now l.count → TopIs cmp limit ys r.grade.now r.count → HigherOf cmp l r t → PeakIs cmp limit xs ys t.grade.now t.left t.right
   peak_both {limit} {xs} {ys} l r t hi lo h =
-      by_standing_lem (cmp l.grade.now r.grade.now)
+      by_ordering (cmp l.grade.now r.grade.now)
       (λ e. let s = rw e at h in
       rw (s.0, s.1, s.2)
       (peak_turned (peak_over lo hi e)))
@@ -185,18 +185,18 @@ module _ {G : Type 0} {cmp : G → G → Ordering} (o : Order cmp) where
   -- one grade further down
   pub agreed_more : {limit : Option G} {xs ys : List G} {g : G} {m n : ℕ} → PeakIs cmp limit xs ys g m n → m ≡ n → Agreed cmp limit xs ys → Agreed cmp (Some g) xs ys
   agreed_more {limit} {xs} {ys} {g} p e same h out =
-      by_standing_lem (cmp g h)
+      by_ordering (cmp g h)
       (λ l. agrees_above _ _ _ _ p.none_left p.none_right same h l)
       (λ s. subst (λ (k : G). count cmp k xs ≡ count cmp k ys) (o.equal g h s) (sym p.left_is ∙ e ∙ p.right_is))
       (λ u. absurd (both_ways (is_lt (cmp h g)) out (ap is_lt (below_higher cmp o g h u))))
 
   below_falls : (limit : Option G) (g x : G) → below cmp limit g ≡ true → cmp x g ≡ Less → below cmp limit x ≡ true
   below_falls None g x b l = refl
-  below_falls (Some top) g x b l = ap is_lt (o.lower x g top l (is_lower_lem (cmp g top) b))
+  below_falls (Some top) g x b l = ap is_lt (o.lower x g top l (is_less (cmp g top) b))
 
   under_here : (limit : Option G) (g : G) → below cmp limit g ≡ true → (x : G) → cond (is_lt (cmp x g)) 1 0 + one (cmp g x) ≤ cond (below cmp limit x) 1 0
   under_here limit g b x =
-      by_standing_lem (cmp g x)
+      by_ordering (cmp g x)
       (λ l. rw (l, above_lower cmp o g x l) (omega arith))
       (λ e. let same : x ≡ g = sym (o.equal g x e) in
       let alike : cmp x g ≡ Same = ap (λ (y : G). cmp y g) same ∙ o.same g in
@@ -227,14 +227,8 @@ module _ {G : Type 0} {cmp : G → G → Ordering} (o : Order cmp) where
   module _ (p q : G → Bool) (g : G) (no : p g ≡ false) (yes : q g ≡ true) where
     step : (x : G) (xs : List G) → ((x ≡ g → ⊥) → p x ≡ q x) → distinct cmp q xs ≡ distinct cmp p xs + cond (eqb (count cmp g xs) 0) 0 1
         → distinct cmp q (x ∷ xs) ≡ distinct cmp p (x ∷ xs) + cond (eqb (count cmp g (x ∷ xs)) 0) 0 1
-    step x xs like rest = by_standing_lem (cmp g x) (λ l. other (apart l lower_not_same)) (λ s. here (o.equal g x s)) (λ u. other (apart u higher_not_same))
+    step x xs like rest = by_ordering (cmp g x) (λ l. other (apart l (λ e. true≢false (ap is_lt e)))) (λ s. here (o.equal g x s)) (λ u. other (apart u (λ e. false≢true (sym (ap is_gt e)))))
       where
-        lower_not_same : Less ≡ Same → ⊥
-        lower_not_same s = let z : ◌≡◌ {A = ℕ} 0 1 = cc in omega arith
-
-        higher_not_same : Greater ≡ Same → ⊥
-        higher_not_same s = let z : ◌≡◌ {A = ℕ} 0 1 = cc in omega arith
-
         apart : {s : Ordering} → cmp g x ≡ s → (s ≡ Same → ⊥) → x ≡ g → ⊥
         apart e differs same = differs (sym e ∙ ap (cmp g) same ∙ o.same g)
 
@@ -287,7 +281,7 @@ module _ {G : Type 0} {cmp : G → G → Ordering} (o : Order cmp) where
 
       same : (x : G) → 0 < count cmp x xs → (x ≡ g → ⊥) → passed cmp limit x ≡ passed cmp (Some g) x
       same x some ne =
-          by_standing_lem (cmp g x)
+          by_ordering (cmp g x)
           (λ l. ap not (by_test (below cmp limit x) (λ b. absurd (omega (arith, some, p.none_left x l b))) (λ b. b ∙ sym (ap is_lt (above_lower cmp o g x l)))))
           (λ s. absurd (ne (sym (o.equal g x s))))
           (λ u. let l : cmp x g ≡ Less = below_higher cmp o g x u in ap not (below_falls limit g x p.under l ∙ sym (ap is_lt l)))
@@ -305,7 +299,7 @@ module _ {G : Type 0} {cmp : G → G → Ordering} (o : Order cmp) where
     where
       same : (x : G) → 0 < count cmp x xs → passed cmp limit x ≡ is_lt (cmp g x)
       same x some =
-          by_standing_lem (cmp g x)
+          by_ordering (cmp g x)
           (λ l. by_test (below cmp limit x) (λ b. absurd (omega (arith, some, p.none_left x l b))) (λ b. ap not b ∙ sym (ap is_lt l)))
           (λ s. ap not (ap (below cmp limit) (sym (o.equal g x s)) ∙ p.under) ∙ sym (ap is_lt s))
           (λ u. ap not (below_falls limit g x p.under (below_higher cmp o g x u)) ∙ sym (ap is_lt u))

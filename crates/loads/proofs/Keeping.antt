@@ -13,7 +13,7 @@ use Rattle.loads.specs.Grades.{Order}
 use Rattle.loads.specs.Loads.{count, NotHeavier, Weighed}
 use Rattle.loads.specs.Laws.{Weighs, is_not_heavier, as_weight, Replaced}
 use Rattle.loads.specs.Weighing.{DecidedAt}
-use Rattle.loads.proofs.Counting.{one, by_standing_lem, below_higher}
+use Rattle.loads.proofs.Counting.{one, by_ordering, below_higher}
 use Rattle.loads.proofs.Weights.{more_weighed, one_answer, not_both, not_each, trans, added, lowered}
 use Rattle.loads.proofs.Agreement.{weighed_only}
 
@@ -44,7 +44,7 @@ module _ {G : Type 0} {cmp : G → G → Ordering} (o : Order cmp) where
 
   by_grades : (new old : G) (us vs : List G) → Weighed cmp (as_weight (cmp new old)) (us ++ (new ∷ vs)) (us ++ (old ∷ vs))
   by_grades new old us vs =
-      by_standing_lem (cmp new old)
+      by_ordering (cmp new old)
       (λ l. rw l (lowered cmp o new old us vs l))
       (λ s. rw s (λ g. ap (λ (z : G). count cmp g (us ++ (z ∷ vs))) (o.equal new old s)))
       (λ u. rw u (lowered cmp o old new us vs (below_higher cmp o new old u)))

@@ -5,9 +5,7 @@ use Rattle.loads.proofs.weighing.compare_loads.Goals as goal
 
 pub returns-then-tally : goal.returns-then-tally
 returns-then-tally g c =
-    let cmp = g.G.Ord.cmp in
     let o = g.met.G.Grade.order in
-    let t = c.in-Some.tally in
     let peak = c.in-Some.ensures in
     let decided = decided_at o peak c.loop-tally.invariant.0 c.if-tally.true in
     record {
@@ -18,28 +16,21 @@ returns-then-tally g c =
 
 pub overflow_add-agreed : goal.overflow_add-agreed
 overflow_add-agreed g c =
-    let t = c.in-Some.tally in
     omega (arith, c.loop-tally.invariant.1, (passed_more g.met.G.Grade.order c.in-Some.ensures c.if-tally.false).1)
 
 pub loop-tally-smaller : goal.loop-tally-smaller
-loop-tally-smaller g c =
-    let t = c.in-Some.tally in
-    under_falls g.met.G.Grade.order c.in-Some.ensures c.if-tally.false
+loop-tally-smaller g c = under_falls g.met.G.Grade.order c.in-Some.ensures c.if-tally.false
 
 pub loop-tally-preserved : goal.loop-tally-preserved
 loop-tally-preserved g c =
-    let cmp = g.G.Ord.cmp in
     let o = g.met.G.Grade.order in
-    let t = c.in-Some.tally in
-    let peak = c.in-Some.ensures in
-    let more = passed_more o peak c.if-tally.false in (
+    let peak = c.in-Some.ensures in (
       agreed_more o peak c.if-tally.false c.loop-tally.invariant.0,
-      omega (arith, c.loop-tally.invariant.1, more.0),
+      omega (arith, c.loop-tally.invariant.1, (passed_more o peak c.if-tally.false).0),
     )
 
 pub returns : goal.returns
 returns g c =
-    let cmp = g.G.Ord.cmp in
     let o = g.met.G.Grade.order in
     let none = c.in_default.ensures in
     let agree = all_agree o _ _ _ none.0 none.1 c.loop-tally.invariant.0 in

@@ -9,12 +9,9 @@ returns-in-Some-Some g c =
 pub returns-in-Some-None : goal.returns-in-Some-None
 returns-in-Some-None g c =
     rw (c.on_left.ensures.grade, c.on_left.ensures.left, c.on_left.ensures.right)
-    (peak_alone g.met.G.Grade.order
-    c.in-Some-None.ensures c.in-Some-None.ensures')
+    (peak_alone g.met.G.Grade.order c.in-Some-None.ensures c.in-Some-None.ensures')
 
 pub returns-in-None-Some : goal.returns-in-None-Some
 returns-in-None-Some g c =
     rw (c.on_right.ensures.grade, c.on_right.ensures.left, c.on_right.ensures.right)
-    (peak_turned g.met.G.Grade.order
-    (peak_alone g.met.G.Grade.order
-    c.in-None-Some.ensures' c.in-None-Some.ensures))
+    (peak_turned g.met.G.Grade.order (peak_alone g.met.G.Grade.order c.in-None-Some.ensures' c.in-None-Some.ensures))

@@ -1,4 +1,4 @@
-use Rattle.std.proofs.Common.{◌≡◌, ◌+◌, true, false, List, [], ◌∷◌, ◌++◌, take, sym, refl, subst, arith, length-take, take_all}
+use Rattle.std.proofs.Common.{◌≡◌, ◌+◌, true, false, List, [], ◌∷◌, ◌++◌, take, sym, subst, arith, length-take}
 use Rattle.loads.specs.Weighing.{seen, below, Top}
 use Rattle.loads.proofs.Descent.{one_more, top_skips, top_raised, times_le}
 use Rattle.loads.proofs.weighing.top_below.Goals as goal
@@ -11,9 +11,6 @@ raised-requires g c =
       times_le g.met.G.Grade.order (seen c.args.limit) _ c.loop-x.top c.loop-x.invariant,
       length-take c.loop-x.x-index c.args.load.now,
     )
-
-pub loop-x-init : goal.loop-x-init
-loop-x-init g c = λ h b. refl
 
 pub loop-x-preserved : goal.loop-x-preserved
 loop-x-preserved g c =
@@ -35,6 +32,3 @@ loop-x-preserved g c =
           subst (Top cmp limit (take i load ++ (x ∷ []))) (sym w.top-is)
           (top_skips o limit (take i load) c.loop-x.top x no c.loop-x.invariant)
     ])
-
-pub returns : goal.returns
-returns g c = rw (take_all _ _ c.loop-x-test.false) at c.loop-x.invariant
