@@ -6,17 +6,16 @@ ghost use Rattle.std.specs.Prelude.{◌≤◌, length, IfOk};
 use std::io;
 use std::io::Read;
 
-// Reads until the input ends or the room is full, and says how many bytes came.
-pub fn read_into<R: Read>(input: &mut R, room: &mut [u8]) -> io::Result<usize>
-    ensures { IfOk result (λ n. n ≤ length room.old) }
+// Reads until the input ends or the room is full. What was read is the front of the room.
+pub fn read_into<'a, R: Read>(input: &mut R, room: &'a mut [u8]) -> io::Result<&'a [u8]>
+    ensures { IfOk result (λ front. length front.now ≤ length room.old) }
 {
     let mut count = 0;
     while count < room.len() {
-        let more = input.read(&mut room[count..])?;
-        if more == 0 {
-            break;
+        match input.read(&mut room[count..])? {
+            0 => break,
+            more => count += more,
         }
-        count += more;
     }
-    Ok(count)
+    Ok(&room[..count])
 }
