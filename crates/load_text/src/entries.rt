@@ -5,7 +5,7 @@ ghost use Rattle.load_text.specs.Words.{spell_points, spell_hand};
 ghost use Rattle.std.proofs.Common.{rules};
 
 use crate::lines::cut_at;
-use crate::numbers::{byte, integer, pair};
+use crate::numbers::number;
 use loads::kinds::{Hand, Points};
 use std::alloc::{AllocError, Global};
 
@@ -33,9 +33,7 @@ impl Entry for Points {
     ghost one = { Prim.search rules };
 
     fn parse(word: &[u8]) -> Option<Points> {
-        let Some(score) = integer(word) else {
-            return None;
-        };
+        let score = number(word)?;
         Some(Points { score })
     }
 
@@ -55,15 +53,9 @@ impl Entry for Hand {
     ghost one = { Prim.search rules };
 
     fn parse(word: &[u8]) -> Option<Hand> {
-        let Some((front, back)) = cut_at(word, STROKE) else {
-            return None;
-        };
-        let Some(class) = byte(front) else {
-            return None;
-        };
-        let Some(year) = pair(back) else {
-            return None;
-        };
+        let (front, back) = cut_at(word, STROKE)?;
+        let class = number(front)?;
+        let year = number(back)?;
         Some(Hand { class, year })
     }
 
