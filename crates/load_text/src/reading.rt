@@ -48,16 +48,10 @@ fn kind_of(line: &[u8]) -> Option<Kind>
     ensures { MatchOption result ((k : Kind) → Names line.now k → ⊥) (λ k. Names line.now k) }
 {
     let mut words = Words(line);
-    let word = words.next()?;
-    if words.next().is_some() {
-        return None;
-    }
-    if word == b"points".as_slice() {
-        Some(Kind::Points)
-    } else if word == b"hands".as_slice() {
-        Some(Kind::Hands)
-    } else {
-        None
+    match (words.next()?, words.next()) {
+        (b"points", None) => Some(Kind::Points),
+        (b"hands", None) => Some(Kind::Hands),
+        _ => None,
     }
 }
 
