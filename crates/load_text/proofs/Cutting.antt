@@ -1,5 +1,5 @@
 -- Fronts of a text, and the lines and words that they cut off.
-use Rattle.std.proofs.Common.{◌≡◌, ℕ, suc, ◌+◌, ◌-◌, ◌<◌, ◌≤◌, Bool, true, false, not, eqb, ltb, List, [], ◌∷◌, ◌++◌, length, take, drop, Option, Some, None, MatchOption, Bor, sym, refl, ap, ◌∙◌, append_assoc, append-nil, one-add, arith}
+use Rattle.std.proofs.Common.{◌≡◌, ℕ, suc, ◌+◌, ◌-◌, ◌<◌, Bool, true, false, not, eqb, ltb, List, [], ◌∷◌, ◌++◌, length, take, drop, Option, Some, None, Bor, sym, refl, ap, ◌∙◌, append_assoc, append-nil, one-add, arith}
 use Rattle.std.specs.List.{position, position_or_len, prefix_len}
 use Rattle.std.specs.Option.{unwrap_or}
 use Rattle.std.proofs.lemmas.Bool.{ltb-true, ltb-false}
@@ -100,13 +100,12 @@ no_word (b ∷ bs) all =
 abbrev begins : List ℕ → List ℕ
 begins xs = drop (prefix_len is_space xs) xs
 
-first_word : (xs : List ℕ) → prefix_len is_space xs < length xs → (words_of xs ≡ take (prefix_len in_word (begins xs)) (begins xs) ∷ words_of (drop (prefix_len in_word (begins xs)) (begins xs))) × (0 < prefix_len in_word (begins xs))
+first_word : (xs : List ℕ) → prefix_len is_space xs < length xs → words_of xs ≡ take (prefix_len in_word (begins xs)) (begins xs) ∷ words_of (drop (prefix_len in_word (begins xs)) (begins xs))
 first_word [] l = absurd (omega arith)
 first_word (b ∷ bs) l =
     by_test (is_space b)
-    (λ t. rw (leading_yes is_space b bs t)
-    (let rest = first_word bs (omega (arith, l, leading_yes is_space b bs t)) in (space_ends [] b bs t ∙ rest.0, rest.1)))
-    (λ f. rw (leading_no is_space b bs f) (rw (leading_yes in_word b bs (ap not f)) (byte_goes_on [] b bs f ∙ run bs (b ∷ []), omega arith)))
+    (λ t. rw (leading_yes is_space b bs t) (space_ends [] b bs t ∙ first_word bs (omega (arith, l, leading_yes is_space b bs t))))
+    (λ f. rw (leading_no is_space b bs f) (rw (leading_yes in_word b bs (ap not f)) (byte_goes_on [] b bs f ∙ run bs (b ∷ []))))
 
 -- the same, of the parts as code cuts them
 part_to_end : (xs : List ℕ) (i : ℕ) → take (length xs - i) (drop i xs) ≡ drop i xs
@@ -140,4 +139,4 @@ word_cut xs word rest i at w r =
     let found = front_found (λ b. not (eqb b 32)) is_space (λ b. by_test (eqb b 32) (λ t. rw t refl) (λ f. rw f refl)) xs i at in
     let begun : take (length xs - i) (drop i xs) ≡ begins xs = part_to_end xs i ∙ ap (λ n. drop n xs) found.0 in
     let end = front_or_all is_space in_word (λ b. refl) (begins xs) in
-    rw (w, r, begun, end) (first_word xs found.1).0
+    rw (w, r, begun, end) (first_word xs found.1)

@@ -1,5 +1,5 @@
 -- Words read one by one into a load.
-use Rattle.std.proofs.Common.{◌≡◌, ℕ, zero, suc, ◌+◌, ◌-◌, ◌<◌, ◌≤◌, List, [], ◌∷◌, ◌++◌, length, get_or, take, drop, sym, ap, ◌∙◌, subst, add-one, arith, length-drop, take_all}
+use Rattle.std.proofs.Common.{◌≡◌, ℕ, zero, suc, ◌+◌, ◌<◌, ◌≤◌, List, [], ◌∷◌, ◌++◌, length, get_or, take, drop, sym, ap, ◌∙◌, subst, add-one, arith, length-drop, take_all}
 use Rattle.std.proofs.lemmas.List.{take_more}
 use Rattle.load_text.specs.Text.{Written}
 
@@ -15,10 +15,6 @@ pub record Heads (ws : List (List ℕ)) (n : ℕ) (w : List ℕ) (rest : List (L
   pub within : n < length ws
   pub there : get_or ws n [] ≡ w
   pub others : drop (n + 1) ws ≡ rest
-
-first_of : {A : Type 0} (d : A) → List A → A
-first_of d [] = d
-first_of d (x ∷ xs) = x
 
 pub heads : (ws : List (List ℕ)) (n : ℕ) (w : List ℕ) (rest : List (List ℕ)) → drop n ws ≡ w ∷ rest → Heads ws n w rest
 heads [] zero w rest e = let z : ◌≡◌ {A = ℕ} 0 1 = cc in absurd (omega arith)

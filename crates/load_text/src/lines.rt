@@ -49,7 +49,10 @@ impl<'a> Iterator for Words<'a> {
     fn next(&mut self) -> Option<&'a [u8]> {
         let start = self.0.iter().position(|b| *b != SPACE)?;
         let begun = &self.0[start..];
-        let end = begun.iter().position(|b| *b == SPACE).unwrap_or(begun.len());
+        let end = begun
+            .iter()
+            .position(|b| *b == SPACE)
+            .unwrap_or(begun.len());
         let (word, rest) = begun.split_at(end);
         self.0 = rest;
         Some(word)

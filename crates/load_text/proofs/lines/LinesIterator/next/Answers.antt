@@ -1,4 +1,4 @@
-use Rattle.std.proofs.Common.{◌≡◌, ◌∷◌, length, rules, sym, refl, ap, ◌∙◌}
+use Rattle.std.proofs.Common.{◌≡◌, ◌∷◌, length, rules, sym, refl, ap}
 use Rattle.std.proofs.lemmas.Bool.{eqb-false}
 use Rattle.load_text.specs.Lines.{lines_of}
 use Rattle.load_text.proofs.Cutting.{line_cut}
