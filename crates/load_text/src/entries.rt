@@ -34,7 +34,7 @@ impl Entry for Points {
     ghost shown = { Prim.search rules };
 
     fn parse(word: &[u8]) -> Option<Points> {
-        let score = number(word)?;
+        let score = number::<i32>(word)?;
         Some(Points { score })
     }
 }
@@ -52,8 +52,8 @@ impl Entry for Hand {
 
     fn parse(word: &[u8]) -> Option<Hand> {
         let (front, back) = cut_at(word, STROKE)?;
-        let class = number(front)?;
-        let year = number(back)?;
+        let class = number::<u8>(front)?;
+        let year = number::<u16>(back)?;
         Some(Hand { class, year })
     }
 }
