@@ -1,6 +1,6 @@
 // The answer to a text of loads, in words.
 ghost use Rattle.std.specs.Prelude.{◌≡◌, IfOk, string_bytes};
-ghost use Rattle.load_text.specs.Words.{weight_word, counts_words, decided_words, SaysOf, SaysPair, Replies};
+ghost use Rattle.load_text.specs.Words.{weight_word, counts_words, decided_words, SaysOf, Replies};
 
 use crate::entries::Entry;
 use crate::faults::TextFault;
@@ -42,21 +42,13 @@ fn pair_words<G: Grade + Entry>(heap: Global, pair: &Pair<G>) -> Result<String, 
     }
 }
 
-fn load_words(heap: Global, loads: &LoadPair) -> Result<String, AllocError>
-    ensures { IfOk result (λ s. SaysPair loads.now (string_bytes s)) }
-{
-    match loads {
-        LoadPair::Points(pair) => pair_words(heap, pair),
-        LoadPair::Hands(pair) => pair_words(heap, pair),
-    }
-}
-
 // The line that answers a text, by what it was read as.
 pub fn reply(heap: Global, read: Result<LoadPair, TextFault>) -> Result<String, AllocError>
     ensures { IfOk result (λ s. Replies read (string_bytes s)) }
 {
     match read {
-        Ok(loads) => load_words(heap, &loads),
+        Ok(LoadPair::Points(pair)) => pair_words(heap, &pair),
+        Ok(LoadPair::Hands(pair)) => pair_words(heap, &pair),
         Err(fault) => fault.to_string(heap),
     }
 }
