@@ -10,7 +10,6 @@ const ROOM: usize = LONGEST + 1;
 
 fn main(rt: HostRuntime) -> io::Result<()> {
     let mut room = [0u8; ROOM];
-    let count = read_into(&mut rt.stdin(), &mut room)?;
-    let text = listing(rt.alloc(), &room[0..count])?;
-    rt.println(text)
+    let file = read_into(&mut rt.stdin(), &mut room)?;
+    rt.println(listing(rt.alloc(), file)?)
 }

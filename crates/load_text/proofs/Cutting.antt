@@ -1,26 +1,36 @@
 -- Fronts of a text, and the lines and words that they cut off.
-use Rattle.std.proofs.Common.{◌≡◌, ℕ, suc, ◌+◌, ◌-◌, ◌<◌, ◌≤◌, Bool, true, false, not, eqb, List, [], ◌∷◌, ◌++◌, length, get_or, take, drop, sym, refl, ap, ◌∙◌, append_assoc, append-nil, one-add, arith, length-drop}
-use Rattle.std.specs.List.{prefix_len}
-use Rattle.std.proofs.lemmas.List.{drop_all}
+use Rattle.std.proofs.Common.{◌≡◌, ℕ, suc, ◌+◌, ◌-◌, ◌<◌, Bool, true, false, not, eqb, ltb, List, [], ◌∷◌, ◌++◌, length, take, drop, Option, Some, None, Bor, sym, refl, ap, ◌∙◌, append_assoc, append-nil, one-add, arith}
+use Rattle.std.specs.List.{position, position_or_len, prefix_len}
+use Rattle.std.specs.Option.{unwrap_or}
+use Rattle.std.proofs.lemmas.Bool.{ltb-true, ltb-false}
+use Rattle.std.proofs.lemmas.Option.{cond_some, none-some}
 use Rattle.std.proofs.lemmas.Slice.{between_to_end}
-use Rattle.std.proofs.lemmas.List.Sums.{prefix_len-drop_yes, prefix_len-drop_no, prefix_len-drop_all, prefix_len-le-length}
+use Rattle.std.proofs.lemmas.List.Recursion.{is_position_or_len}
+use Rattle.std.proofs.lemmas.List.Sums.{prefix_len-le-length}
 use Rattle.loads.proofs.Descent.{by_test}
-use Rattle.load_text.specs.Lines.{before, on_first, lines_of, ended, words_after, words_of}
+use Rattle.load_text.specs.Lines.{before, CutAt, on_first, lines_of, ended, words_after, words_of}
 
--- a front ends within the list
-pub front_within : (p : ℕ → Bool) (xs : List ℕ) (n : ℕ) → n ≡ prefix_len p xs → n ≤ length xs
-front_within p xs n e = omega (arith, e, prefix_len-le-length p xs)
+-- q fails where p passes: the front by q ends at the first byte that passes p
+module _ (p q : ℕ → Bool) (turned : (b : ℕ) → q b ≡ not (p b)) (xs : List ℕ) where
+  front_is : prefix_len q xs ≡ position_or_len p xs
+  front_is = is_position_or_len (prefix_len q) p refl (λ b bs. by_test (p b) (λ t. rw (turned b, t) refl) (λ f. rw (turned b, f) refl)) xs
 
--- a loop that counts the front of xs that passes a test
-module _ (p : ℕ → Bool) (xs : List ℕ) (i : ℕ) (so_far : prefix_len p xs ≡ i + prefix_len p (drop i xs)) where
-  pub front_more : i < length xs → p (get_or xs i 0) ≡ true → prefix_len p xs ≡ i + 1 + prefix_len p (drop (i + 1) xs)
-  front_more within passes = omega (arith, so_far, prefix_len-drop_yes p xs i 0 within passes)
+  front_found : (i : ℕ) → position p xs ≡ Some i → (i ≡ prefix_len q xs) × (prefix_len q xs < length xs)
+  front_found i at =
+      let there = cond_some (ltb (position_or_len p xs) (length xs)) (position_or_len p xs) i at in
+      (sym (front_is ∙ there.1), omega (arith, front_is, ltb-true _ _ there.0))
 
-  pub front_stops : i < length xs → p (get_or xs i 0) ≡ false → i ≡ prefix_len p xs
-  front_stops within fails = omega (arith, so_far, prefix_len-drop_no p xs i 0 within fails)
+  front_all : position p xs ≡ None → prefix_len q xs ≡ length xs
+  front_all at =
+      by_test (ltb (position_or_len p xs) (length xs))
+      (λ t. absurd (none-some (position_or_len p xs) (sym at ∙ rw t refl)))
+      (λ f. omega (arith, front_is, ltb-false _ _ f, prefix_len-le-length q xs))
 
-  pub front_all : i ≤ length xs → length xs ≤ i → length xs ≡ prefix_len p xs
-  front_all low high = omega (arith, so_far, prefix_len-drop_all p xs i high)
+  front_or_all : unwrap_or (position p xs) (length xs) ≡ prefix_len q xs
+  front_or_all =
+      by_test (ltb (position_or_len p xs) (length xs))
+      (λ t. rw t (sym front_is))
+      (λ f. rw f (omega (arith, front_is, ltb-false _ _ f, prefix_len-le-length q xs)))
 
 abbrev in_line : ℕ → Bool
 in_line b = not (eqb b 10)
@@ -33,7 +43,7 @@ last_line (c ∷ cs) all b =
     (λ t. absurd (omega (arith, rw t at all)))
     (λ f. rw f (ap (on_first b) (last_line cs (omega (arith, rw f at all)) c)))
 
-pub only_line : (xs : List ℕ) → 0 < length xs → prefix_len in_line xs ≡ length xs → lines_of xs ≡ xs ∷ []
+only_line : (xs : List ℕ) → 0 < length xs → prefix_len in_line xs ≡ length xs → lines_of xs ≡ xs ∷ []
 only_line [] some all = absurd (omega arith)
 only_line (b ∷ bs) some all =
     by_test (eqb b 10)
@@ -41,7 +51,7 @@ only_line (b ∷ bs) some all =
     (λ f. rw f (last_line bs (omega (arith, rw f at all)) b))
 
 -- a line feed ends the first line
-pub first_line : (xs : List ℕ) → prefix_len in_line xs < length xs → lines_of xs ≡ take (prefix_len in_line xs) xs ∷ lines_of (drop (prefix_len in_line xs + 1) xs)
+first_line : (xs : List ℕ) → prefix_len in_line xs < length xs → lines_of xs ≡ take (prefix_len in_line xs) xs ∷ lines_of (drop (prefix_len in_line xs + 1) xs)
 first_line [] l = absurd (omega arith)
 first_line (b ∷ bs) l =
     by_test (eqb b 10)
@@ -79,7 +89,7 @@ run (b ∷ bs) begun =
     (λ f. rw (leading_yes in_word b bs (ap not f))
     (byte_goes_on begun b bs f ∙ run bs (begun ++ (b ∷ [])) ∙ ap (λ (ys : List ℕ). ended ys ++ words_of (drop (prefix_len in_word bs) bs)) (append_assoc begun (b ∷ []) (take (prefix_len in_word bs) bs))))
 
-pub no_word : (xs : List ℕ) → prefix_len is_space xs ≡ length xs → words_of xs ≡ []
+no_word : (xs : List ℕ) → prefix_len is_space xs ≡ length xs → words_of xs ≡ []
 no_word [] all = refl
 no_word (b ∷ bs) all =
     by_test (is_space b)
@@ -87,55 +97,46 @@ no_word (b ∷ bs) all =
     (λ f. absurd (omega (arith, all, leading_no is_space b bs f)))
 
 -- what follows the spaces in front
-abbrev pub begins : List ℕ → List ℕ
+abbrev begins : List ℕ → List ℕ
 begins xs = drop (prefix_len is_space xs) xs
 
-pub first_word : (xs : List ℕ) → prefix_len is_space xs < length xs → (words_of xs ≡ take (prefix_len in_word (begins xs)) (begins xs) ∷ words_of (drop (prefix_len in_word (begins xs)) (begins xs))) × (0 < prefix_len in_word (begins xs))
+first_word : (xs : List ℕ) → prefix_len is_space xs < length xs → words_of xs ≡ take (prefix_len in_word (begins xs)) (begins xs) ∷ words_of (drop (prefix_len in_word (begins xs)) (begins xs))
 first_word [] l = absurd (omega arith)
 first_word (b ∷ bs) l =
     by_test (is_space b)
-    (λ t. rw (leading_yes is_space b bs t)
-    (let rest = first_word bs (omega (arith, l, leading_yes is_space b bs t)) in (space_ends [] b bs t ∙ rest.0, rest.1)))
-    (λ f. rw (leading_no is_space b bs f) (rw (leading_yes in_word b bs (ap not f)) (byte_goes_on [] b bs f ∙ run bs (b ∷ []), omega arith)))
+    (λ t. rw (leading_yes is_space b bs t) (space_ends [] b bs t ∙ first_word bs (omega (arith, l, leading_yes is_space b bs t))))
+    (λ f. rw (leading_no is_space b bs f) (rw (leading_yes in_word b bs (ap not f)) (byte_goes_on [] b bs f ∙ run bs (b ∷ []))))
 
 -- the same, of the parts as code cuts them
 part_to_end : (xs : List ℕ) (i : ℕ) → take (length xs - i) (drop i xs) ≡ drop i xs
 part_to_end xs i = between_to_end xs i (length xs) (omega arith)
 
--- a cut at the first byte of a kind
-pub cut_there : (byte : ℕ) (xs : List ℕ) (e : ℕ) → e ≡ before byte xs → e ≤ length xs → (e ≡ length xs → ⊥)
-    → (before byte xs < length xs) × (take (e - 0) xs ≡ take (before byte xs) xs) × (take (length xs - (e + 1)) (drop (e + 1) xs) ≡ drop (before byte xs + 1) xs)
-cut_there byte xs e is within apart =
-    let all : e - 0 ≡ before byte xs = omega (arith, is) in
-    (omega (arith, is, within, apart), ap (λ n. take n xs) all, part_to_end xs (e + 1) ∙ ap (λ n. drop (n + 1) xs) is)
+pub cut_none : (byte : ℕ) (xs : List ℕ) → position (λ b. eqb b byte) xs ≡ None → before byte xs ≡ length xs
+cut_none byte xs at = front_all (λ b. eqb b byte) (λ b. not (eqb b byte)) (λ b. refl) xs at
 
-pub line_cut : (xs line rest : List ℕ) → before 10 xs < length xs → line ≡ take (before 10 xs) xs → rest ≡ drop (before 10 xs + 1) xs → lines_of xs ≡ line ∷ lines_of rest
-line_cut xs line rest l p q = rw (p, q) (first_line xs l)
+pub cut_there : (byte : ℕ) (xs : List ℕ) (i : ℕ) → position (λ b. eqb b byte) xs ≡ Some i
+    → (before byte xs < length xs) × (take i xs ≡ take (before byte xs) xs) × (take (length xs - (i + 1)) (drop (i + 1) xs) ≡ drop (before byte xs + 1) xs)
+cut_there byte xs i at =
+    let found = front_found (λ b. eqb b byte) (λ b. not (eqb b byte)) (λ b. refl) xs i at in
+    (found.1, ap (λ n. take n xs) found.0, part_to_end xs (i + 1) ∙ ap (λ n. drop (n + 1) xs) found.0)
 
-pub line_last : (xs : List ℕ) → before 10 xs ≡ length xs → (length xs ≡ 0 → ⊥) → lines_of xs ≡ xs ∷ lines_of (take (length xs - length xs) (drop (length xs) xs))
-line_last xs all some = rw (part_to_end xs (length xs), drop_all (length xs) xs (omega arith)) (only_line xs (omega (arith, some)) all)
+-- a line and the rest, from a cut at a line feed or else all of the text
+pub line_cut : (xs : List ℕ) (o : Option (Bor (List ℕ) × Bor (List ℕ))) (all end : Bor (List ℕ)) → CutAt 10 xs o → (length xs ≡ 0 → ⊥) → all.now ≡ xs → end.now ≡ []
+    → lines_of xs ≡ (unwrap_or o (all, end)).0.now ∷ lines_of (unwrap_or o (all, end)).1.now
+line_cut xs None all end cut some whole rest = rw (whole, rest) (only_line xs (omega (arith, some)) cut)
+line_cut xs (Some c) all end cut some whole rest = rw (cut.1, cut.2) (first_line xs cut.0)
 
-cut_begun : (xs ys : List ℕ) (k : ℕ) → ys ≡ begins xs → prefix_len is_space xs < length xs → k ≡ prefix_len in_word ys → (words_of xs ≡ take k ys ∷ words_of (drop k ys)) × (length (drop k ys) < length xs)
-cut_begun xs ys k begun l is =
-    let found = first_word xs l in
-    let same : prefix_len in_word ys ≡ prefix_len in_word (begins xs) = ap (prefix_len in_word) begun in
-    let size : length ys ≡ length xs - prefix_len is_space xs = ap length begun ∙ length-drop (prefix_len is_space xs) xs in
-    (rw (is, begun) found.0, omega (arith, length-drop k ys, size, same, is, l, found.1))
+-- a line of spaces has no word
+pub words_none : (xs : List ℕ) → position (λ b. not (eqb b 32)) xs ≡ None → words_of xs ≡ []
+words_none xs at = no_word xs (front_all (λ b. not (eqb b 32)) is_space (λ b. by_test (eqb b 32) (λ t. rw t refl) (λ f. rw f refl)) xs at)
 
-pub cut_word : (xs : List ℕ) (s k : ℕ) → s ≡ prefix_len is_space xs → s ≤ length xs → (s ≡ length xs → ⊥) → k ≡ prefix_len in_word (take (length xs - s) (drop s xs))
-    → (words_of xs ≡ take (k - 0) (take (length xs - s) (drop s xs)) ∷ words_of (take (length (take (length xs - s) (drop s xs)) - k) (drop k (take (length xs - s) (drop s xs)))))
-    × (length (take (length (take (length xs - s) (drop s xs)) - k) (drop k (take (length xs - s) (drop s xs)))) < length xs)
-cut_word xs s k starts within apart ends =
-    let all : k - 0 ≡ k = omega arith in
-    let begun : take (length xs - s) (drop s xs) ≡ begins xs = part_to_end xs s ∙ ap (λ n. drop n xs) starts in
-    rw (all, part_to_end (take (length xs - s) (drop s xs)) k)
-    (cut_begun xs (take (length xs - s) (drop s xs)) k begun (omega (arith, starts, within, apart)) ends)
-
--- a text of bytes has a line
-pub some_line : (xs : List ℕ) → (length xs ≡ 0 → ⊥) → 0 < length (lines_of xs)
-some_line [] some = absurd (some refl)
-some_line (b ∷ bs) some = by_test (eqb b 10) (λ t. rw t (omega arith)) (λ f. rw f (first b (lines_of bs)))
-  where
-    first : (b : ℕ) (ls : List (List ℕ)) → 0 < length (on_first b ls)
-    first b [] = omega arith
-    first b (l ∷ ls) = omega arith
+-- a word and the rest
+pub word_cut : (xs word rest : List ℕ) (i : ℕ) → position (λ b. not (eqb b 32)) xs ≡ Some i
+    → word ≡ take (unwrap_or (position is_space (take (length xs - i) (drop i xs))) (length (take (length xs - i) (drop i xs)))) (take (length xs - i) (drop i xs))
+    → rest ≡ drop (unwrap_or (position is_space (take (length xs - i) (drop i xs))) (length (take (length xs - i) (drop i xs)))) (take (length xs - i) (drop i xs))
+    → words_of xs ≡ word ∷ words_of rest
+word_cut xs word rest i at w r =
+    let found = front_found (λ b. not (eqb b 32)) is_space (λ b. by_test (eqb b 32) (λ t. rw t refl) (λ f. rw f refl)) xs i at in
+    let begun : take (length xs - i) (drop i xs) ≡ begins xs = part_to_end xs i ∙ ap (λ n. drop n xs) found.0 in
+    let end = front_or_all is_space in_word (λ b. refl) (begins xs) in
+    rw (w, r, begun, end) (first_word xs found.1)

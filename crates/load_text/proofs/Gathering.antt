@@ -1,7 +1,7 @@
 -- Words read one by one into a load.
-use Rattle.std.proofs.Common.{◌≡◌, ℕ, zero, suc, ◌+◌, ◌-◌, ◌<◌, ◌≤◌, List, [], ◌∷◌, ◌++◌, length, get_or, take, drop, sym, ap, ◌∙◌, subst, add-one, arith, length-drop, take_all}
+use Rattle.std.proofs.Common.{◌≡◌, ℕ, zero, suc, ◌+◌, ◌<◌, ◌≤◌, List, [], ◌∷◌, ◌++◌, length, get_or, take, drop, sym, ap, ◌∙◌, subst, add-one, arith, length-drop, take_all}
 use Rattle.std.proofs.lemmas.List.{take_more}
-use Rattle.load_text.specs.Text.{Written, BadEntryAt}
+use Rattle.load_text.specs.Text.{Written}
 
 module _ {G : Type 0} (writes : List ℕ → G → Type 0) where
   written_push : (ws : List (List ℕ)) (gs : List G) (w : List ℕ) (g : G) → Written writes ws gs → writes w g → Written writes (ws ++ (w ∷ [])) (gs ++ (g ∷ []))
@@ -16,10 +16,6 @@ pub record Heads (ws : List (List ℕ)) (n : ℕ) (w : List ℕ) (rest : List (L
   pub there : get_or ws n [] ≡ w
   pub others : drop (n + 1) ws ≡ rest
 
-first_of : {A : Type 0} (d : A) → List A → A
-first_of d [] = d
-first_of d (x ∷ xs) = x
-
 pub heads : (ws : List (List ℕ)) (n : ℕ) (w : List ℕ) (rest : List (List ℕ)) → drop n ws ≡ w ∷ rest → Heads ws n w rest
 heads [] zero w rest e = let z : ◌≡◌ {A = ℕ} 0 1 = cc in absurd (omega arith)
 heads [] (suc n) w rest e = let z : ◌≡◌ {A = ℕ} 0 1 = cc in absurd (omega arith)
@@ -32,15 +28,6 @@ heads (v ∷ vs) (suc n) w rest e =
     record { within = omega (arith, h.within); there = h.there; others = rw (add-one (suc n)) (rw add-one at h.others) }
 
 module _ {G : Type 0} (writes : List ℕ → G → Type 0) (ws : List (List ℕ)) (n : ℕ) (gs : List G) (w : List ℕ) (rest : List (List ℕ)) (h : Heads ws n w rest) (all : Written writes (take n ws) gs) where
-  pub bad_entry : ((g : G) → writes w g → ⊥) → BadEntryAt writes ws (n + 1)
-  bad_entry none =
-      let k : n + 1 - 1 ≡ n = omega arith in record {
-        first = omega arith;
-        last = omega (arith, h.within);
-        bad = λ g p. none g (subst (λ (v : List ℕ). writes v g) (ap (λ i. get_or ws i []) k ∙ h.there) p);
-        good = (gs, rw k all);
-      }
-
   pub one_more : (g : G) → writes w g → Written writes (take (n + 1) ws) (gs ++ (g ∷ []))
   one_more g p =
       subst (λ (vs : List (List ℕ)). Written writes vs (gs ++ (g ∷ []))) (sym (take_more ws n [] h.within ∙ ap (λ v. take n ws ++ (v ∷ [])) h.there))

@@ -1,11 +1,10 @@
 -- The words that write numbers are ASCII, so a word that is no text writes none.
-use Rattle.std.proofs.Common.{ℕ, ◌^◌, ◌≤◌, eqb, List, [], ◌∷◌, length, IsUtf8, IsAscii, arith}
+use Rattle.std.proofs.Common.{ℕ, eqb, List, [], ◌∷◌, length, IsUtf8, IsAscii, arith}
 use Rattle.std.specs.Str.Parse.{AllDigits, IsNumeral, without_leading_plus, without_leading_sign}
 use Rattle.std.proofs.lemmas.Str.Ascii.{IsAscii-nil, IsAscii-cons, IsAscii-from_reads}
 use Rattle.std.proofs.lemmas.Str.Parse.{digit_at}
 use Rattle.std.proofs.lemmas.Bool.{eqb-true}
 use Rattle.std.proofs.lemmas.Str.{IsUtf8-from_ascii}
-use Rattle.load_text.specs.Entries.{WritesNumber}
 use Rattle.loads.proofs.Descent.{by_test}
 
 digits_ascii : (ds : List ℕ) → AllDigits 10 ds → IsAscii ds
@@ -28,7 +27,3 @@ signed_utf8 (b ∷ bs) h =
     (by_test (eqb b 45)
     (λ t. IsAscii-cons b bs (omega (arith, eqb-true b 45 t)) (digits_ascii bs (rw t at h).1))
     (λ f. plus_ascii b bs (rw f at h).1))
-
--- a smaller bound is a stronger claim
-pub wider : (k : ℕ) (word : List ℕ) (n : ℕ) → 2 ^ k ≤ 2 ^ 32 → WritesNumber k word n → WritesNumber 32 word n
-wider k word n le w = record { numeral = w.numeral; fits = omega (arith, w.fits, le); is = w.is }

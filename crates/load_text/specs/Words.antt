@@ -1,23 +1,14 @@
 -- The answer to a text of loads, in words.
 use Rattle.std.specs.Prelude.{◌≡◌, ℕ, cond, ◌⊎◌, List, ◌++◌, Ok, Err, vec_items, codes, decimal, Result, nat_lt}
-use Rattle.std.specs.Fmt.{signed_decimal}
 use Rattle.std.specs.declared.cmp.Ordering.{Ordering}
-use Rattle.loads.specs.declared.kinds.Hand.{Hand}
-use Rattle.loads.specs.declared.kinds.Points.{Points}
 use Rattle.loads.specs.Kinds.{by_points, by_hand}
 use Rattle.loads.specs.Loads.{Equal}
+use Rattle.loads.specs.Spelling.{spell_points, spell_hand}
 use Rattle.loads.specs.Weighing.{DecidedAt}
 use Rattle.load_text.specs.declared.faults.TextFault.{TextFault}
 use Rattle.load_text.specs.declared.faults.TextFault.TheVariants.{TooLong, MissingLine, ExtraLine, UnknownKind, BadEntry, OutOfMemory}
 use Rattle.load_text.specs.declared.reading.LoadPair.{LoadPair}
 use Rattle.load_text.specs.declared.reading.LoadPair.TheVariants.{Points as OfPoints, Hands as OfHands}
-
--- how a grade is written
-abbrev pub spell_points : Points → List ℕ
-spell_points p = signed_decimal p.score
-
-abbrev pub spell_hand : Hand → List ℕ
-spell_hand h = decimal h.class ++ (codes "/" ++ decimal h.year)
 
 -- what the left load is, with m of the deciding grade on the left and n on the right
 abbrev pub weight_word : ℕ → ℕ → List ℕ

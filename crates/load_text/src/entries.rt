@@ -1,17 +1,17 @@
 // Entries of a load: each kind of grade has its way to be written.
-ghost use Rattle.std.specs.Prelude.{◌≡◌, ℕ, List, IfOk, string_bytes, MatchOption};
+ghost use Rattle.std.specs.Prelude.{◌≡◌, ℕ, List, MatchOption, Some};
 ghost use Rattle.load_text.specs.Entries.{WritesPoints, WritesHand};
-ghost use Rattle.load_text.specs.Words.{spell_points, spell_hand};
+ghost use Rattle.loads.specs.Spelling.{spell_points, spell_hand};
 ghost use Rattle.std.proofs.Common.{rules};
 
 use crate::lines::cut_at;
-use crate::numbers::{byte, integer, pair};
+use crate::numbers::number;
 use loads::kinds::{Hand, Points};
-use std::alloc::{AllocError, Global};
+use std::fmt::Display;
 
 // A kind of grade that words write: `writes` is which words write which grade, and no word writes two; `spelt` is the word
-// that we write for a grade.
-pub trait Entry: Sized {
+// that we write for a grade, as `{}` does.
+pub trait Entry: Display + Sized {
     ghost writes: { List ℕ → Self → Type 0 };
 
     ghost spelt: { Self → List ℕ };
@@ -19,10 +19,9 @@ pub trait Entry: Sized {
     fn parse(word: &[u8]) -> Option<Self>
         ensures { MatchOption result ((g : Self) → writes word.now g → ⊥) (λ g. writes word.now g) };
 
-    fn spell(&self, heap: Global) -> Result<String, AllocError>
-        ensures { IfOk result (λ s. string_bytes s ≡ spelt self.now) };
-
     ghost one: { (word : List ℕ) (g h : Self) → writes word g → writes word h → g ≡ h };
+
+    ghost shown: { (g : Self) → Self.output g ≡ Some (spelt g) };
 }
 
 impl Entry for Points {
@@ -32,16 +31,11 @@ impl Entry for Points {
 
     ghost one = { Prim.search rules };
 
-    fn parse(word: &[u8]) -> Option<Points> {
-        let Some(score) = integer(word) else {
-            return None;
-        };
-        Some(Points { score })
-    }
+    ghost shown = { Prim.search rules };
 
-    fn spell(&self, heap: Global) -> Result<String, AllocError> {
-        let score = self.score;
-        format!(in heap; "{score}")
+    fn parse(word: &[u8]) -> Option<Points> {
+        let score = number::<i32>(word)?;
+        Some(Points { score })
     }
 }
 
@@ -54,22 +48,12 @@ impl Entry for Hand {
 
     ghost one = { Prim.search rules };
 
-    fn parse(word: &[u8]) -> Option<Hand> {
-        let Some((front, back)) = cut_at(word, STROKE) else {
-            return None;
-        };
-        let Some(class) = byte(front) else {
-            return None;
-        };
-        let Some(year) = pair(back) else {
-            return None;
-        };
-        Some(Hand { class, year })
-    }
+    ghost shown = { Prim.search rules };
 
-    fn spell(&self, heap: Global) -> Result<String, AllocError> {
-        let class = self.class;
-        let year = self.year;
-        format!(in heap; "{class}/{year}")
+    fn parse(word: &[u8]) -> Option<Hand> {
+        let (front, back) = cut_at(word, STROKE)?;
+        let class = number::<u8>(front)?;
+        let year = number::<u16>(back)?;
+        Some(Hand { class, year })
     }
 }

@@ -1,71 +1,60 @@
-// Lines and words of a text, taken off its front one by one.
-ghost use Rattle.std.specs.Prelude.{◌≡◌, ◌<◌, ◌≤◌, [], ◌∷◌, length, MatchOption, nat_eq};
-ghost use Rattle.std.specs.List.{prefix_len};
-ghost use Rattle.load_text.specs.Lines.{before, CutAt, lines_of, words_of};
+// The lines of a text and the words of a line.
+ghost use Rattle.std.specs.Iterator.{YieldsFirstRef, item_count};
+ghost use Rattle.load_text.specs.Lines.{CutAt, lines_of, words_of};
 
 const LINE_FEED: u8 = b'\n';
 
 const SPACE: u8 = b' ';
 
-// How many of the first bytes are `byte`.
-fn front_of(text: &[u8], byte: u8) -> usize
-    ensures front { result ≡ prefix_len (λ b. nat_eq b byte) text.now }
-    ensures within { result ≤ length text.now }
-{
-    for (i, b) in text.iter().enumerate() {
-        if *b != byte {
-            return i;
-        }
-    }
-    text.len()
-}
-
-// How many bytes stand before the first `byte`; all of them where there is none.
-fn front_before(text: &[u8], byte: u8) -> usize
-    ensures front { result ≡ before byte text.now }
-    ensures within { result ≤ length text.now }
-{
-    for (i, b) in text.iter().enumerate() {
-        if *b == byte {
-            return i;
-        }
-    }
-    text.len()
-}
-
 // What stands before the first `byte` and what follows it; none where there is no such byte.
 pub(crate) fn cut_at(text: &[u8], byte: u8) -> Option<(&[u8], &[u8])>
     ensures { CutAt byte text.now result }
 {
-    let at = front_before(text, byte);
-    if at == text.len() {
-        return None;
-    }
-    Some((&text[0..at], &text[at + 1..]))
+    let at = text.iter().position(|b| *b == byte)?;
+    Some((&text[..at], &text[at + 1..]))
 }
 
-// The first line of a text and what follows it; none of an empty text.
-pub(crate) fn next_line(text: &[u8]) -> Option<(&[u8], &[u8])>
-    ensures { MatchOption result (text.now ≡ []) (λ cut. lines_of text.now ≡ cut.0.now ∷ lines_of cut.1.now) }
-{
-    if text.is_empty() {
-        return None;
-    }
-    match cut_at(text, LINE_FEED) {
-        Some(cut) => Some(cut),
-        None => Some((text, &text[text.len()..])),
+// The lines of what is left of a text.
+#[derive(Drop)]
+pub(crate) struct Lines<'a>(pub(crate) &'a [u8]);
+
+impl<'a> Iterator for Lines<'a> {
+    type Item = &'a [u8];
+
+    ghost next_gives = { YieldsFirstRef (λ s. lines_of s.0.now) };
+
+    ghost remaining = { item_count (λ s. lines_of s.0.now) };
+
+    fn next(&mut self) -> Option<&'a [u8]> {
+        if self.0.is_empty() {
+            return None;
+        }
+        let (line, rest) = cut_at(self.0, LINE_FEED).unwrap_or((self.0, &[]));
+        self.0 = rest;
+        Some(line)
     }
 }
 
-// The first word of a line and what follows it; none of a line of spaces.
-pub(crate) fn next_word(line: &[u8]) -> Option<(&[u8], &[u8])>
-    ensures { MatchOption result (words_of line.now ≡ []) (λ cut. (words_of line.now ≡ cut.0.now ∷ words_of cut.1.now) × (length cut.1.now < length line.now)) }
-{
-    let start = front_of(line, SPACE);
-    if start == line.len() {
-        return None;
+// The words of what is left of a line.
+#[derive(Drop)]
+pub(crate) struct Words<'a>(pub(crate) &'a [u8]);
+
+impl<'a> Iterator for Words<'a> {
+    type Item = &'a [u8];
+
+    ghost next_gives = { YieldsFirstRef (λ s. words_of s.0.now) };
+
+    ghost remaining = { item_count (λ s. words_of s.0.now) };
+
+    fn next(&mut self) -> Option<&'a [u8]> {
+        let start = self.0.iter().position(|b| *b != SPACE)?;
+        let begun = &self.0[start..];
+        let end = begun
+            .iter()
+            .position(|b| *b == SPACE)
+            .unwrap_or(begun.len());
+        let (word, rest) = begun.split_at(end);
+        self.0 = rest;
+        Some(word)
     }
-    let begun = &line[start..];
-    let end = front_before(begun, SPACE);
-    Some((&begun[0..end], &begun[end..]))
 }

@@ -6,7 +6,7 @@ ghost use Rattle.load_text.specs.Text.{Written, LoadFault, ThreeLines, LinesFaul
 
 use crate::entries::Entry;
 use crate::faults::TextFault;
-use crate::lines::{next_line, next_word};
+use crate::lines::{Lines, Words};
 use loads::kinds::{Hand, Points};
 use std::alloc::Global;
 
@@ -27,19 +27,14 @@ fn three_lines(text: &[u8]) -> Result<Layout<'_>, TextFault>
     if text.len() > LONGEST {
         return Err(TextFault::TooLong);
     }
-    let Some((kind, loads)) = next_line(text) else {
-        return Err(TextFault::MissingLine { line: 1 });
-    };
-    let Some((left, last)) = next_line(loads) else {
-        return Err(TextFault::MissingLine { line: 2 });
-    };
-    let Some((right, rest)) = next_line(last) else {
-        return Err(TextFault::MissingLine { line: 3 });
-    };
-    if !rest.is_empty() {
-        return Err(TextFault::ExtraLine);
+    let mut lines = Lines(text);
+    let kind = lines.next().ok_or(TextFault::MissingLine { line: 1 })?;
+    let left = lines.next().ok_or(TextFault::MissingLine { line: 2 })?;
+    let right = lines.next().ok_or(TextFault::MissingLine { line: 3 })?;
+    match lines.next() {
+        None => Ok(Layout { kind, left, right }),
+        Some(_) => Err(TextFault::ExtraLine),
     }
-    Ok(Layout { kind, left, right })
 }
 
 #[derive(Clone, Copy)]
@@ -52,18 +47,11 @@ enum Kind {
 fn kind_of(line: &[u8]) -> Option<Kind>
     ensures { MatchOption result ((k : Kind) → Names line.now k → ⊥) (λ k. Names line.now k) }
 {
-    let Some((word, rest)) = next_word(line) else {
-        return None;
-    };
-    if let Some(_) = next_word(rest) {
-        return None;
-    }
-    if word == b"points".as_slice() {
-        Some(Kind::Points)
-    } else if word == b"hands".as_slice() {
-        Some(Kind::Hands)
-    } else {
-        None
+    let mut words = Words(line);
+    match (words.next()?, words.next()) {
+        (b"points", None) => Some(Kind::Points),
+        (b"hands", None) => Some(Kind::Hands),
+        _ => None,
     }
 }
 
@@ -72,16 +60,12 @@ fn read_load<G: Entry + Drop>(heap: Global, line: &[u8], number: usize) -> Resul
     ensures { MatchResult result (λ load. Written G.writes (words_of line.now) load.items) (λ f. LoadFault G.writes (words_of line.now) number f) }
 {
     let mut load = Vec::new(heap);
-    let mut rest = line;
-    while let Some((word, after)) = next_word(rest) {
-        let Some(grade) = G::parse(word) else {
-            return Err(TextFault::BadEntry {
-                line: number,
-                entry: load.len() + 1,
-            });
-        };
+    for word in Words(line) {
+        let grade = G::parse(word).ok_or(TextFault::BadEntry {
+            line: number,
+            entry: load.len() + 1,
+        })?;
         load.push(grade)?;
-        rest = after;
     }
     Ok(load)
 }
@@ -112,10 +96,9 @@ pub enum LoadPair {
 pub fn parse(heap: Global, text: &[u8]) -> Result<LoadPair, TextFault>
     ensures { MatchResult result (λ loads. TextOf text.now loads) (λ f. TextFaultOf text.now f) }
 {
-    let layout = three_lines(text)?;
-    match kind_of(layout.kind) {
-        None => Err(TextFault::UnknownKind),
-        Some(Kind::Points) => Ok(LoadPair::Points(read_pair(heap, layout.left, layout.right)?)),
-        Some(Kind::Hands) => Ok(LoadPair::Hands(read_pair(heap, layout.left, layout.right)?)),
+    let Layout { kind, left, right } = three_lines(text)?;
+    match kind_of(kind).ok_or(TextFault::UnknownKind)? {
+        Kind::Points => read_pair(heap, left, right).map(LoadPair::Points),
+        Kind::Hands => read_pair(heap, left, right).map(LoadPair::Hands),
     }
 }

@@ -4,4 +4,5 @@ pub mod Kinds
 pub mod Laws
 pub mod Loads
 pub mod Recursive
+pub mod Spelling
 pub mod Weighing

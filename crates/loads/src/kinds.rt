@@ -1,14 +1,16 @@
 // The two kinds of grade that the societies use.
-ghost use Rattle.std.specs.Prelude.{◌≡◌, ◌≢◌};
+ghost use Rattle.std.specs.Prelude.{◌≡◌, ◌≢◌, Some};
 ghost use Rattle.std.specs.Cmp.{partial_order_from_own_ties};
 ghost use Rattle.std.specs.Cmp.Rules.{comparing};
 ghost use Rattle.std.specs.Ordering.{as_partial_cmp};
 ghost use Rattle.std.specs.declared.cmp.Ordering.TheVariants.{Less};
 ghost use Rattle.loads.specs.Kinds.{by_hand, points_order};
+ghost use Rattle.loads.specs.Spelling.{spell_points, spell_hand};
 ghost use Rattle.std.proofs.Common.{rules};
 
 use crate::grades::Grade;
 use std::cmp::Ordering;
+use std::fmt;
 
 // A mark given by a reader of the register: fewer points are lower.
 #[derive(Clone, Copy, PartialEq, Eq, PartialOrd, Ord, Debug)]
@@ -19,6 +21,14 @@ pub struct Points {
 // The derived order is `by_points`: that is what `points_order` is proved of.
 impl Grade for Points {
     ghost order = { points_order };
+}
+
+impl fmt::Display for Points {
+    ghost output = { λ p. Some (spell_points p) };
+
+    fn fmt<W: fmt::Write>(&self, f: &mut fmt::Formatter<W>) -> fmt::Result {
+        write!(f, "{}", self.score)
+    }
 }
 
 // A handwriting: its script class and its year. A lower class is lower; within a class the later year is lower.
@@ -67,4 +77,12 @@ impl PartialOrd for Hand {
 
 impl Grade for Hand {
     ghost order = { Prim.search rules };
+}
+
+impl fmt::Display for Hand {
+    ghost output = { λ h. Some (spell_hand h) };
+
+    fn fmt<W: fmt::Write>(&self, f: &mut fmt::Formatter<W>) -> fmt::Result {
+        write!(f, "{}/{}", self.class, self.year)
+    }
 }

@@ -11,8 +11,7 @@ const ROOM: usize = 65537;
 
 fn main(rt: HostRuntime) -> io::Result<()> {
     let mut room = [0u8; ROOM];
-    let count = read_into(&mut rt.stdin(), &mut room)?;
-    let read = parse(rt.alloc(), &room[0..count]);
-    let line = reply(rt.alloc(), read)?;
-    rt.println(line)
+    let text = read_into(&mut rt.stdin(), &mut room)?;
+    let loads = parse(rt.alloc(), text);
+    rt.println(reply(rt.alloc(), loads)?)
 }

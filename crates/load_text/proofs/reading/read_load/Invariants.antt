@@ -1,13 +1,10 @@
-use Rattle.std.proofs.Common.{◌≡◌, length, take, drop, vec_items, vec_len}
+use Rattle.std.proofs.Common.{◌≡◌, take, drop, vec_items, vec_len}
 use Rattle.load_text.specs.Lines.{words_of}
 use Rattle.load_text.specs.Text.{Written}
 use Rattle.load_text.proofs.reading.read_load.Given as goal
 
--- as many words are read as there are grades, and the others stand in the rest
+-- as many words are read as there are grades, and the others are still to come
 abbrev pub invariant-loop-word : goal.invariant-loop-word
 invariant-loop-word g l =
-    (words_of l.rest ≡ drop (vec_len l.load) (words_of l.line))
+    (words_of l.word-iterator.0.now ≡ drop (vec_len l.load) (words_of l.line))
     × Written g.G.Entry.writes (take (vec_len l.load) (words_of l.line)) (vec_items l.load)
-
-abbrev pub decreases-loop-word : goal.decreases-loop-word
-decreases-loop-word g l = length l.rest

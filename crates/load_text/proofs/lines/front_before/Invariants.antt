@@ -1,6 +1,0 @@
-use Rattle.std.proofs.Common.{◌≡◌, ◌+◌, not, eqb, drop}
-use Rattle.std.specs.List.{prefix_len}
-use Rattle.load_text.proofs.lines.front_before.Given as goal
-
-abbrev pub invariant-loop-i : goal.invariant-loop-i
-invariant-loop-i l = prefix_len (λ b. not (eqb b l.byte)) l.text ≡ l.i + prefix_len (λ b. not (eqb b l.byte)) (drop l.i l.text)
