@@ -15,11 +15,11 @@ pub enum RowFault {
     NamedTwice,
 }
 
-impl RowFault {
-    pub fn number(self) -> u8
-        ensures { result ≡ row_number self }
-    {
-        match self {
+impl From<RowFault> for u8 {
+    ghost from_gives = { λ f n. n ≡ row_number f };
+
+    fn from(fault: RowFault) -> u8 {
+        match fault {
             RowFault::BadLength => 3,
             RowFault::NoCell => 4,
             RowFault::NamedTwice => 5,
@@ -37,14 +37,14 @@ pub enum FilterFault {
     Store(WriteFault),
 }
 
-impl FilterFault {
-    pub fn number(self) -> u8
-        ensures { result ≡ filter_number self }
-    {
-        match self {
-            FilterFault::Rows(fault) => fault.number(),
+impl From<FilterFault> for u8 {
+    ghost from_gives = { λ f n. n ≡ filter_number f };
+
+    fn from(fault: FilterFault) -> u8 {
+        match fault {
+            FilterFault::Rows(why) => u8::from(why),
             FilterFault::NothingLeft => 9,
-            FilterFault::Store(fault) => fault.number(),
+            FilterFault::Store(why) => why.number(),
         }
     }
 }
