@@ -16,7 +16,7 @@ pub enum RowFault {
 }
 
 impl From<RowFault> for u8 {
-    ghost from_gives = { λ f n. n ≡ row_number f };
+    ghost from_gives = { λ fault number. number ≡ row_number fault };
 
     fn from(fault: RowFault) -> u8 {
         match fault {
@@ -38,13 +38,13 @@ pub enum FilterFault {
 }
 
 impl From<FilterFault> for u8 {
-    ghost from_gives = { λ f n. n ≡ filter_number f };
+    ghost from_gives = { λ fault number. number ≡ filter_number fault };
 
     fn from(fault: FilterFault) -> u8 {
         match fault {
             FilterFault::Rows(why) => u8::from(why),
             FilterFault::NothingLeft => 9,
-            FilterFault::Store(why) => why.number(),
+            FilterFault::Store(why) => u8::from(why),
         }
     }
 }

@@ -8,11 +8,11 @@ pub enum LayOutFault {
     OutOfBounds,
 }
 
-impl LayOutFault {
-    pub fn number(self) -> u8
-        ensures { result ≡ lay_out_number self }
-    {
-        match self {
+impl From<LayOutFault> for u8 {
+    ghost from_gives = { λ fault number. number ≡ lay_out_number fault };
+
+    fn from(fault: LayOutFault) -> u8 {
+        match fault {
             LayOutFault::OutOfBounds => 2,
         }
     }
@@ -28,11 +28,11 @@ pub enum WriteFault {
     NotHeld,
 }
 
-impl WriteFault {
-    pub fn number(self) -> u8
-        ensures { result ≡ write_number self }
-    {
-        match self {
+impl From<WriteFault> for u8 {
+    ghost from_gives = { λ fault number. number ≡ write_number fault };
+
+    fn from(fault: WriteFault) -> u8 {
+        match fault {
             WriteFault::NoCell => 4,
             WriteFault::RankPastScale => 6,
             WriteFault::NotHeld => 8,
