@@ -1,14 +1,14 @@
 -- The marks found from the top are the marks, and there are no others.
-use Rattle.std.proofs.Common.{◌≡◌, ℕ, zero, suc, ◌<◌, ◌≤◌, max, Bool, true, false, cond, ltb, ◌⊎◌, List, length, take, Some, None, MatchBool, Option, sym, refl, ap, ◌∙◌, subst, inl, inr, arith}
+use Rattle.std.proofs.Common.{◌≡◌, ℕ, zero, suc, ◌<◌, ◌≤◌, max, Bool, true, false, cond, ltb, ◌⊎◌, List, length, take, Some, None, MatchBool, Option, ◌≢◌, sym, refl, ap, ◌∙◌, subst, inl, inr, arith}
 use lib.ListN.{get_or-eq_default}
 use Rattle.std.proofs.lemmas.List.{get_or-take, length-take}
-use Rattle.std.proofs.lemmas.Bool.{cases_eq, cases_order, cond_both, ltb-true, ltb-false}
+use Rattle.std.proofs.lemmas.Bool.{cases_eq, cases_lt, cases_order, cond_both, ltb-true, ltb-false}
 use Rattle.loads.specs.declared.weighing.Weight.{Weight}
 use Rattle.loads.specs.declared.weighing.Weight.TheVariants.{Lighter as lighter, Equal as equal, Heavier as heavier}
 use Rattle.loads.specs.Counts.{by_counts}
 use Rattle.marking.specs.declared.marks.Marks.{Marks}
 use Rattle.marking.specs.Marks.{occurs, AlphaIs, BetaIs, GammaSays, SigmaSays, Marked}
-use Rattle.marking.proofs.Counts.{Says}
+use Rattle.marking.proofs.Comparing.{Says}
 
 -- among the ranks below k, f has fewer at the highest where the two differ
 abbrev Front : (ℕ → ℕ) → (ℕ → ℕ) → ℕ → Type 0
@@ -122,3 +122,21 @@ only ox oy m p n q =
     (subst (λ (o : Option ℕ). MatchBool n.sigma (SigmaSays ox oy o) (SigmaSays ox oy o → ⊥)) b q.sigma_is)
     p.sigma_is in
     λ i. record { alpha = a i; beta = b i; gamma = c i; sigma = d i }
+
+-- the highest rank below k whose counts differ
+abbrev pub AlphaBelow : (ℕ → ℕ) → (ℕ → ℕ) → ℕ → Option ℕ → Type 0
+AlphaBelow f g k None = (h : ℕ) → h < k → f h ≡ g h
+AlphaBelow f g k (Some α) = (f α ≢ g α) × ((h : ℕ) → α < h → h < k → f h ≡ g h)
+
+-- is the highest of all, where no others differ
+pub alpha_is : (f g : ℕ → ℕ) (k : ℕ) (r : Option ℕ) → ((h : ℕ) → k ≤ h → f h ≡ g h) → AlphaBelow f g k r → AlphaIs f g r
+alpha_is f g k None e p = λ h. go h (cases_lt h k)
+  where
+    go : (h : ℕ) → (h < k) ⊎ (k ≤ h) → f h ≡ g h
+    go h (inl l) = p h l
+    go h (inr l) = e h l
+alpha_is f g k (Some α) e p = (p.0, λ h m. go h m (cases_lt h k))
+  where
+    go : (h : ℕ) → α < h → (h < k) ⊎ (k ≤ h) → f h ≡ g h
+    go h m (inl l) = p.1 h m l
+    go h m (inr l) = e h l

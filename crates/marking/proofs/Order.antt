@@ -6,7 +6,7 @@ use Rattle.loads.specs.Counts.{by_counts}
 use Rattle.loads.specs.Kinds.{by_rank}
 use Rattle.loads.proofs.Counting as counting
 use Rattle.loads.proofs.FromTop.{rank_order}
-use Rattle.marking.proofs.Counts.{Below, Same, AtMost, Says, one}
+use Rattle.marking.proofs.Comparing.{Below, Same, AtMost, Says, one}
 
 pub one_same : (r h : ℕ) → r ≡ h → one r h ≡ 1
 unfolding one

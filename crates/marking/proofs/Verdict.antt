@@ -11,7 +11,7 @@ use Rattle.loads.proofs.Weights.{count_insert}
 use Rattle.marking.specs.declared.marks.Marks.{Marks}
 use Rattle.marking.specs.Marks.{occurs, AlphaIs, BetaIs, GammaSays, SigmaSays, Marked}
 use Rattle.marking.specs.Bounds.{Iff, Loaded, IsFloor}
-use Rattle.marking.proofs.Counts.{AtMost, one, Shifted, Moved, Alpha, Beta, NoBeta, Gamma, Sigma}
+use Rattle.marking.proofs.Comparing.{AtMost, one, Shifted, Moved, Alpha, Beta, NoBeta, Gamma, Sigma}
 use Rattle.marking.proofs.Shifts.{at_alpha_spare, at_alpha_no_beta, at_alpha_over_beta, at_alpha_no_gamma, at_alpha_under_beta, at_beta_short, at_beta_sigma, at_beta_no_sigma}
 
 -- loads compare as their counts do

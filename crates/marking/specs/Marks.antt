@@ -1,10 +1,18 @@
 -- The marks of two counts: ox says how often each rank occurs on the left, oy on the right.
 use Rattle.std.specs.Prelude.{◌≡◌, ℕ, ◌<◌, ◌≤◌, List, Some, None, MatchBool, Option, ◌≢◌, slice_index}
+use Rattle.marking.specs.declared.counts.Counts.{Counts}
 use Rattle.marking.specs.declared.marks.Marks.{Marks}
 
 -- how often a rank occurs, where xs counts the ranks from 0 up
 abbrev pub occurs : List ℕ → ℕ → ℕ
 occurs xs h = slice_index xs h
+
+-- the same of the left and of the right of two counts
+abbrev pub on_left : Counts → ℕ → ℕ
+on_left counts = occurs counts.left.now
+
+abbrev pub on_right : Counts → ℕ → ℕ
+on_right counts = occurs counts.right.now
 
 -- α is the highest rank whose counts differ, and is absent when there is none
 abbrev pub AlphaIs : (ℕ → ℕ) → (ℕ → ℕ) → Option ℕ → Type 0

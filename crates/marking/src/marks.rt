@@ -1,5 +1,5 @@
 // The four marks. Ranks are counted from 0.
-#[derive(Clone, Copy, PartialEq, Eq, Debug)]
+#[derive(Clone, Copy, Default, PartialEq, Eq, Debug)]
 pub struct Marks {
     // the highest rank whose counts differ
     pub alpha: Option<usize>,
