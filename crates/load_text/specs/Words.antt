@@ -1,7 +1,7 @@
 -- The answer to a text of loads, in words.
 use Rattle.std.specs.Prelude.{◌≡◌, ℕ, cond, ◌⊎◌, List, ◌++◌, Ok, Err, vec_items, codes, decimal, Result, nat_lt}
 use Rattle.std.specs.Fmt.{signed_decimal}
-use Rattle.loads.specs.declared.grades.Standing.{Standing}
+use Rattle.std.specs.declared.cmp.Ordering.{Ordering}
 use Rattle.loads.specs.declared.kinds.Hand.{Hand}
 use Rattle.loads.specs.declared.kinds.Points.{Points}
 use Rattle.loads.specs.Kinds.{by_points, by_hand}
@@ -29,7 +29,7 @@ counts_words m n = codes "the left load holds " ++ (decimal m ++ (codes ", the r
 abbrev pub decided_words : {G : Type 0} → (G → List ℕ) → G → ℕ → ℕ → List ℕ
 decided_words spell g m n = weight_word m n ++ (codes " at " ++ (spell g ++ (codes ": " ++ counts_words m n)))
 
-pub record DecidedIn {G : Type 0} (cmp : G → G → Standing) (spell : G → List ℕ) (left right : List G) (words : List ℕ) : Type 0 where
+pub record DecidedIn {G : Type 0} (cmp : G → G → Ordering) (spell : G → List ℕ) (left right : List G) (words : List ℕ) : Type 0 where
   pub grade : G
   pub on_left : ℕ
   pub on_right : ℕ
@@ -37,7 +37,7 @@ pub record DecidedIn {G : Type 0} (cmp : G → G → Standing) (spell : G → Li
   pub words_are : words ≡ decided_words spell grade on_left on_right
 
 -- what is said of two loads
-abbrev pub SaysOf : {G : Type 0} → (G → G → Standing) → (G → List ℕ) → List G → List G → List ℕ → Type 0
+abbrev pub SaysOf : {G : Type 0} → (G → G → Ordering) → (G → List ℕ) → List G → List G → List ℕ → Type 0
 SaysOf cmp spell left right words = (Equal cmp left right × (words ≡ codes "equal at every grade")) ⊎ DecidedIn cmp spell left right words
 
 abbrev pub SaysPair : LoadPair → List ℕ → Type 0

@@ -1,10 +1,11 @@
 -- The recursion agrees with the counts.
 use Rattle.std.proofs.Common.{◌≡◌, ℕ, zero, suc, ◌+◌, ◌<◌, ◌≤◌, Bool, cond, List, [], ◌∷◌, length, sym, refl, ap, ◌∙◌, subst, arith}
 use Rattle.std.proofs.lemmas.Bool.{both_ways, cond_both}
-use Rattle.loads.specs.declared.grades.Standing.{Standing}
-use Rattle.loads.specs.declared.grades.Standing.TheVariants.{Lower}
+use Rattle.std.specs.declared.cmp.Ordering.{Ordering}
+use Rattle.std.specs.declared.cmp.Ordering.TheVariants.{Less}
+use Rattle.std.specs.Ordering.{is_lt, is_eq}
 use Rattle.loads.specs.declared.weighing.Weight.{Weight}
-use Rattle.loads.specs.Grades.{Order, is_lower, is_same}
+use Rattle.loads.specs.Grades.{Order}
 use Rattle.loads.specs.Loads.{count, Lighter, Weighed}
 use Rattle.loads.specs.Recursive.{maximum, without, by_maxima, weighed_in, weighed}
 use Rattle.loads.proofs.Counting.{one, by_standing_lem, is_lower_lem, is_same_lem, below_higher, one_here, one_higher, one_apart}
@@ -12,18 +13,18 @@ use Rattle.loads.proofs.Descent.{by_test}
 use Rattle.loads.proofs.Weights.{more_weighed, one_answer}
 
 -- m is the grade of a member, and none is higher
-abbrev Top : {G : Type 0} → (G → G → Standing) → G → List G → Type 0
-Top {G} cmp m xs = (0 < count cmp m xs) × ((h : G) → cmp m h ≡ Lower → count cmp h xs ≡ 0)
+abbrev Top : {G : Type 0} → (G → G → Ordering) → G → List G → Type 0
+Top {G} cmp m xs = (0 < count cmp m xs) × ((h : G) → cmp m h ≡ Less → count cmp h xs ≡ 0)
 
-module _ {G : Type 0} (cmp : G → G → Standing) (o : Order cmp) where
-  top_more : (x m : G) (ys : List G) → Top cmp m ys → Top cmp (cond (is_lower (cmp m x)) x m) (x ∷ ys)
+module _ {G : Type 0} (cmp : G → G → Ordering) (o : Order cmp) where
+  top_more : (x m : G) (ys : List G) → Top cmp m ys → Top cmp (cond (is_lt (cmp m x)) x m) (x ∷ ys)
   top_more x m ys t =
-      cond_both (is_lower (cmp m x)) x m (λ k. Top cmp k (x ∷ ys))
-      (λ b. let l : cmp m x ≡ Lower = is_lower_lem (cmp m x) b in
+      cond_both (is_lt (cmp m x)) x m (λ k. Top cmp k (x ∷ ys))
+      (λ b. let l : cmp m x ≡ Less = is_lower_lem (cmp m x) b in
       (omega (arith, one_here cmp o x), λ h u. omega (arith, one_higher cmp o x h u, t.1 h (o.lower m x h l u))))
       (λ b. (
         omega (arith, t.0),
-        λ h u. omega (arith, t.1 h u, one_apart cmp o h x (λ e. both_ways (is_lower (cmp m x)) b (ap is_lower (subst (λ (y : G). cmp m y ≡ Lower) e u)))),
+        λ h u. omega (arith, t.1 h u, one_apart cmp o h x (λ e. both_ways (is_lt (cmp m x)) b (ap is_lt (subst (λ (y : G). cmp m y ≡ Less) e u)))),
       ))
 
   top : (x : G) (xs : List G) → Top cmp (maximum cmp x xs) (x ∷ xs)
@@ -34,7 +35,7 @@ module _ {G : Type 0} (cmp : G → G → Standing) (o : Order cmp) where
   dropped : (m : G) (xs : List G) → 0 < count cmp m xs → (h : G) → count cmp h xs ≡ count cmp h (without cmp m xs) + one (cmp h m)
   dropped m [] some h = absurd (omega arith)
   dropped m (x ∷ xs) some h =
-      by_test (is_same (cmp m x))
+      by_test (is_eq (cmp m x))
       (λ b. let same : m ≡ x = o.equal m x (is_same_lem (cmp m x) b) in
       rw b (omega (arith, ap (λ (y : G). one (cmp h y)) same)))
       (λ b. let left : 0 < count cmp m xs = omega (arith, ap {B = ℕ} (λ (t : Bool). cond t 1 0) b) in
@@ -43,13 +44,13 @@ module _ {G : Type 0} (cmp : G → G → Standing) (o : Order cmp) where
   dropped_length : (m : G) (xs : List G) → 0 < count cmp m xs → length xs ≡ suc (length (without cmp m xs))
   dropped_length m [] some = absurd (omega arith)
   dropped_length m (x ∷ xs) some =
-      by_test (is_same (cmp m x))
+      by_test (is_eq (cmp m x))
       (λ b. rw b refl)
       (λ b. let left : 0 < count cmp m xs = omega (arith, ap {B = ℕ} (λ (t : Bool). cond t 1 0) b) in
       rw b (ap suc (dropped_length m xs left)))
 
   -- a lower maximum is lighter
-  lower_top : (m k : G) (xs ys : List G) → Top cmp m xs → Top cmp k ys → cmp m k ≡ Lower → Lighter cmp xs ys
+  lower_top : (m k : G) (xs ys : List G) → Top cmp m xs → Top cmp k ys → cmp m k ≡ Less → Lighter cmp xs ys
   lower_top m k xs ys s t l =
       (k, omega (arith, s.1 k l, t.0), λ h u. omega (arith, s.1 h (o.lower m k h l u), t.1 h u))
 

@@ -1,67 +1,68 @@
 -- Counts of a load, and what the laws of an order give of them.
 use Rattle.std.proofs.Common.{◌≡◌, ℕ, ◌+◌, ◌<◌, ◌≤◌, true, cond, List, [], ◌∷◌, ◌++◌, length, get_or, take, sym, refl, ap, ◌∙◌, arith}
 use Rattle.std.proofs.lemmas.List.{take_more}
-use Rattle.loads.specs.declared.grades.Standing.{Standing}
-use Rattle.loads.specs.declared.grades.Standing.TheVariants.{Lower, Same, Higher}
-use Rattle.loads.specs.Grades.{Order, is_lower, is_same, exchanged}
+use Rattle.std.specs.declared.cmp.Ordering.{Ordering}
+use Rattle.std.specs.declared.cmp.Ordering.TheVariants.{Less, Equal as Same, Greater}
+use Rattle.std.specs.Ordering.{is_lt, is_eq, ordering_reverse}
+use Rattle.loads.specs.Grades.{Order}
 use Rattle.loads.specs.Loads.{count}
 
 -- cases on a standing, with its equation
-pub by_standing_lem : {R : Type 0} (s : Standing) → (s ≡ Lower → R) → (s ≡ Same → R) → (s ≡ Higher → R) → R
-by_standing_lem Lower l e h = l refl
+pub by_standing_lem : {R : Type 0} (s : Ordering) → (s ≡ Less → R) → (s ≡ Same → R) → (s ≡ Greater → R) → R
+by_standing_lem Less l e h = l refl
 by_standing_lem Same l e h = e refl
-by_standing_lem Higher l e h = h refl
+by_standing_lem Greater l e h = h refl
 
-pub is_lower_lem : (s : Standing) → is_lower s ≡ true → s ≡ Lower
-is_lower_lem Lower e = refl
+pub is_lower_lem : (s : Ordering) → is_lt s ≡ true → s ≡ Less
+is_lower_lem Less e = refl
 is_lower_lem Same e = let z : ◌≡◌ {A = ℕ} 0 1 = cc in absurd (omega arith)
-is_lower_lem Higher e = let z : ◌≡◌ {A = ℕ} 0 1 = cc in absurd (omega arith)
+is_lower_lem Greater e = let z : ◌≡◌ {A = ℕ} 0 1 = cc in absurd (omega arith)
 
-pub is_same_lem : (s : Standing) → is_same s ≡ true → s ≡ Same
-is_same_lem Lower e = let z : ◌≡◌ {A = ℕ} 0 1 = cc in absurd (omega arith)
+pub is_same_lem : (s : Ordering) → is_eq s ≡ true → s ≡ Same
+is_same_lem Less e = let z : ◌≡◌ {A = ℕ} 0 1 = cc in absurd (omega arith)
 is_same_lem Same e = refl
-is_same_lem Higher e = let z : ◌≡◌ {A = ℕ} 0 1 = cc in absurd (omega arith)
+is_same_lem Greater e = let z : ◌≡◌ {A = ℕ} 0 1 = cc in absurd (omega arith)
 
 -- what a member adds to the count of a grade
-abbrev pub one : Standing → ℕ
-one s = cond (is_same s) 1 0
+abbrev pub one : Ordering → ℕ
+one s = cond (is_eq s) 1 0
 
-pub one_le : (s : Standing) → one s ≤ 1
-one_le Lower = omega arith
+pub one_le : (s : Ordering) → one s ≤ 1
+one_le Less = omega arith
 one_le Same = omega arith
-one_le Higher = omega arith
+one_le Greater = omega arith
 
-pub count_append : {G : Type 0} (cmp : G → G → Standing) (g : G) (xs ys : List G) → count cmp g (xs ++ ys) ≡ count cmp g xs + count cmp g ys
+pub count_append : {G : Type 0} (cmp : G → G → Ordering) (g : G) (xs ys : List G) → count cmp g (xs ++ ys) ≡ count cmp g xs + count cmp g ys
 count_append cmp g [] ys = omega arith
 count_append cmp g (x ∷ xs) ys = omega (arith, count_append cmp g xs ys)
 
-pub count_push : {G : Type 0} (cmp : G → G → Standing) (g : G) (xs : List G) (x : G) → count cmp g (xs ++ (x ∷ [])) ≡ count cmp g xs + one (cmp g x)
+pub count_push : {G : Type 0} (cmp : G → G → Ordering) (g : G) (xs : List G) (x : G) → count cmp g (xs ++ (x ∷ [])) ≡ count cmp g xs + one (cmp g x)
 count_push cmp g xs x = omega (arith, count_append cmp g xs (x ∷ []))
 
-pub count_le_length : {G : Type 0} (cmp : G → G → Standing) (g : G) (xs : List G) → count cmp g xs ≤ length xs
+pub count_le_length : {G : Type 0} (cmp : G → G → Ordering) (g : G) (xs : List G) → count cmp g xs ≤ length xs
 count_le_length cmp g [] = omega arith
 count_le_length cmp g (x ∷ xs) = omega (arith, one_le (cmp g x), count_le_length cmp g xs)
 
 -- one member more of xs
-pub count_more : {G : Type 0} (cmp : G → G → Standing) (g : G) (xs : List G) (i : ℕ) (x : G) → i < length xs → x ≡ get_or xs i x → count cmp g (take (i + 1) xs) ≡ count cmp g (take i xs) + one (cmp g x)
+pub count_more : {G : Type 0} (cmp : G → G → Ordering) (g : G) (xs : List G) (i : ℕ) (x : G) → i < length xs → x ≡ get_or xs i x → count cmp g (take (i + 1) xs) ≡ count cmp g (take i xs) + one (cmp g x)
 count_more cmp g xs i x within read =
     ap (count cmp g) (take_more xs i x within) ∙ count_push cmp g (take i xs) (get_or xs i x) ∙ ap (λ y. count cmp g (take i xs) + one (cmp g y)) (sym read)
 
-module _ {G : Type 0} (cmp : G → G → Standing) (o : Order cmp) where
-  pub above_lower : (x y : G) → cmp x y ≡ Lower → cmp y x ≡ Higher
-  above_lower x y e = o.exchange x y ∙ ap exchanged e
+module _ {G : Type 0} (cmp : G → G → Ordering) (o : Order cmp) where
+  pub above_lower : (x y : G) → cmp x y ≡ Less → cmp y x ≡ Greater
+  above_lower x y e = o.exchange x y ∙ ap ordering_reverse e
 
-  pub below_higher : (x y : G) → cmp x y ≡ Higher → cmp y x ≡ Lower
-  below_higher x y e = o.exchange x y ∙ ap exchanged e
+  pub below_higher : (x y : G) → cmp x y ≡ Greater → cmp y x ≡ Less
+  below_higher x y e = o.exchange x y ∙ ap ordering_reverse e
 
   pub one_here : (x : G) → one (cmp x x) ≡ 1
   one_here x = ap one (o.same x)
 
   -- a higher grade and a lower one are not the same
-  pub one_lower : (x y : G) → cmp x y ≡ Lower → one (cmp x y) ≡ 0
+  pub one_lower : (x y : G) → cmp x y ≡ Less → one (cmp x y) ≡ 0
   one_lower x y e = ap one e
 
-  pub one_higher : (x y : G) → cmp x y ≡ Lower → one (cmp y x) ≡ 0
+  pub one_higher : (x y : G) → cmp x y ≡ Less → one (cmp y x) ≡ 0
   one_higher x y e = ap one (above_lower x y e)
 
   -- a grade of which P holds is not the same as one of which it does not

@@ -2,11 +2,12 @@
 use Rattle.std.proofs.Common.{◌≡◌, ℕ, ◌+◌, ◌<◌, ◌≤◌, Bool, true, false, cond, not, eqb, ◌⊎◌, List, [], ◌∷◌, ◌++◌, length, get_or, take, Some, None, Option, sym, refl, ap, ◌∙◌, subst, inl, inr, arith}
 use Rattle.std.proofs.lemmas.List.{take_more}
 use Rattle.std.proofs.lemmas.Bool.{both_ways, ne_eqb}
-use Rattle.loads.specs.declared.grades.Standing.{Standing}
-use Rattle.loads.specs.declared.grades.Standing.TheVariants.{Lower, Same, Higher}
+use Rattle.std.specs.declared.cmp.Ordering.{Ordering}
+use Rattle.std.specs.declared.cmp.Ordering.TheVariants.{Less, Equal as Same, Greater}
+use Rattle.std.specs.Ordering.{is_lt}
 use Rattle.loads.specs.declared.weighing.Held.{Held}
 use Rattle.loads.specs.declared.weighing.Tally.{Tally}
-use Rattle.loads.specs.Grades.{Order, is_lower}
+use Rattle.loads.specs.Grades.{Order}
 use Rattle.loads.specs.Loads.{count, Equal}
 use Rattle.loads.specs.Weighing.{below, NoneBetween, TopIs, NoTop, Top, times, Raised, PeakIs, HigherOf, DecidedAt, distinct}
 use Rattle.loads.proofs.Counting.{one, by_standing_lem, is_lower_lem, count_push, count_le_length, above_lower, below_higher, one_here, one_higher, one_apart}
@@ -15,7 +16,7 @@ use Rattle.loads.proofs.Counting.{one, by_standing_lem, is_lower_lem, count_push
 pub one_more : {G : Type 0} (xs : List G) (i : ℕ) (x : G) → i < length xs → x ≡ get_or xs i x → take (i + 1) xs ≡ take i xs ++ (x ∷ [])
 one_more xs i x within read = take_more xs i x within ∙ ap (λ y. take i xs ++ (y ∷ [])) (sym read)
 
-module _ {G : Type 0} (cmp : G → G → Standing) (o : Order cmp) where
+module _ {G : Type 0} (cmp : G → G → Ordering) (o : Order cmp) where
   -- a grade below the limit is not one that is not
   outside : (limit : Option G) (h x : G) → below cmp limit x ≡ false → below cmp limit h ≡ true → one (cmp h x) ≡ 0
   outside limit h x out b = one_apart cmp o h x (λ e. both_ways (below cmp limit x) out (subst (λ (y : G). below cmp limit y ≡ true) e b))
@@ -39,7 +40,7 @@ module _ {G : Type 0} (cmp : G → G → Standing) (o : Order cmp) where
   }
 
   module _ (limit : Option G) (xs : List G) (g : G) (n : ℕ) (x : G) (b : below cmp limit x ≡ true) (hi : TopIs cmp limit xs g n) where
-    top_lower : cmp x g ≡ Lower → TopIs cmp limit (xs ++ (x ∷ [])) g n
+    top_lower : cmp x g ≡ Less → TopIs cmp limit (xs ++ (x ∷ [])) g n
     top_lower e = record {
       under = hi.under;
       count_is = omega (arith, count_push cmp g xs x, hi.count_is, one_higher cmp o x g e);
@@ -56,9 +57,9 @@ module _ {G : Type 0} (cmp : G → G → Standing) (o : Order cmp) where
           none_between = λ h l k. omega (arith, count_push cmp h xs x, hi.none_between h l k, ap (λ (y : G). one (cmp h y)) same, one_higher cmp o g h l);
         }
 
-    top_higher : cmp x g ≡ Higher → TopIs cmp limit (xs ++ (x ∷ [])) x 1
+    top_higher : cmp x g ≡ Greater → TopIs cmp limit (xs ++ (x ∷ [])) x 1
     top_higher e =
-        let up : cmp g x ≡ Lower = below_higher cmp o x g e in record {
+        let up : cmp g x ≡ Less = below_higher cmp o x g e in record {
           under = b;
           count_is = omega (arith, count_push cmp x xs x, hi.none_between x up b, one_here cmp o x);
           some = omega arith;
@@ -89,7 +90,7 @@ module _ {G : Type 0} (cmp : G → G → Standing) (o : Order cmp) where
   times_le limit xs (Some t) hi = omega (arith, hi.count_is, count_le_length cmp t.grade.now xs)
 
   -- a top that is higher than the other load's, or alone
-  pub peak_left : (limit : Option G) (xs ys : List G) (g : G) (m : ℕ) → TopIs cmp limit xs g m → ((h : G) → (g ≡ h) ⊎ (cmp g h ≡ Lower) → below cmp limit h ≡ true → count cmp h ys ≡ 0) → PeakIs cmp limit xs ys g m 0
+  pub peak_left : (limit : Option G) (xs ys : List G) (g : G) (m : ℕ) → TopIs cmp limit xs g m → ((h : G) → (g ≡ h) ⊎ (cmp g h ≡ Less) → below cmp limit h ≡ true → count cmp h ys ≡ 0) → PeakIs cmp limit xs ys g m 0
   peak_left limit xs ys g m hi none = record {
     under = hi.under;
     left_is = hi.count_is;
@@ -113,11 +114,11 @@ module _ {G : Type 0} (cmp : G → G → Standing) (o : Order cmp) where
   peak_alone limit xs ys g m hi none = peak_left limit xs ys g m hi (λ h _ b. none h b)
 
   -- a top above the other load's top
-  peak_over : (limit : Option G) (xs ys : List G) (g k : G) (m n : ℕ) → TopIs cmp limit xs g m → TopIs cmp limit ys k n → cmp k g ≡ Lower → PeakIs cmp limit xs ys g m 0
+  peak_over : (limit : Option G) (xs ys : List G) (g k : G) (m n : ℕ) → TopIs cmp limit xs g m → TopIs cmp limit ys k n → cmp k g ≡ Less → PeakIs cmp limit xs ys g m 0
   peak_over limit xs ys g k m n hi lo e = peak_left limit xs ys g m hi (λ h w b. lo.none_between h (over h w) b)
     where
-      over : (h : G) → (g ≡ h) ⊎ (cmp g h ≡ Lower) → cmp k h ≡ Lower
-      over h (inl same) = subst (λ (y : G). cmp k y ≡ Lower) same e
+      over : (h : G) → (g ≡ h) ⊎ (cmp g h ≡ Less) → cmp k h ≡ Less
+      over h (inl same) = subst (λ (y : G). cmp k y ≡ Less) same e
       over h (inr l) = o.lower k g h e l
 
   at_peak : (limit : Option G) (xs ys : List G) (g : G) (m n : ℕ) (t : Tally G) → t.grade.now ≡ g → t.left ≡ m → t.right ≡ n → PeakIs cmp limit xs ys g m n → PeakIs cmp limit xs ys t.grade.now t.left t.right
@@ -155,25 +156,25 @@ by_test true t f = t refl
 by_test false t f = f refl
 
 -- the loads have as many of each grade that is not below the limit
-abbrev pub Agreed : {G : Type 0} → (G → G → Standing) → Option G → List G → List G → Type 0
+abbrev pub Agreed : {G : Type 0} → (G → G → Ordering) → Option G → List G → List G → Type 0
 Agreed {G} cmp limit xs ys = (h : G) → below cmp limit h ≡ false → count cmp h xs ≡ count cmp h ys
 
 -- how many members are below the limit
-abbrev pub under : {G : Type 0} → (G → G → Standing) → Option G → List G → ℕ
+abbrev pub under : {G : Type 0} → (G → G → Ordering) → Option G → List G → ℕ
 under cmp limit [] = 0
 under cmp limit (x ∷ xs) = cond (below cmp limit x) 1 0 + under cmp limit xs
 
 -- at or above the limit
-abbrev passed : {G : Type 0} → (G → G → Standing) → Option G → G → Bool
+abbrev passed : {G : Type 0} → (G → G → Ordering) → Option G → G → Bool
 passed cmp limit x = not (below cmp limit x)
 
 -- how many different grades of a load are at or above the limit
-abbrev pub grades_passed : {G : Type 0} → (G → G → Standing) → Option G → List G → ℕ
+abbrev pub grades_passed : {G : Type 0} → (G → G → Ordering) → Option G → List G → ℕ
 grades_passed cmp None xs = 0
 grades_passed cmp (Some g) xs = distinct cmp (passed cmp (Some g)) xs
 
-module _ {G : Type 0} (cmp : G → G → Standing) (o : Order cmp) where
-  agrees_above : (limit : Option G) (xs ys : List G) (g : G) → NoneBetween cmp g limit xs → NoneBetween cmp g limit ys → Agreed cmp limit xs ys → (h : G) → cmp g h ≡ Lower → count cmp h xs ≡ count cmp h ys
+module _ {G : Type 0} (cmp : G → G → Ordering) (o : Order cmp) where
+  agrees_above : (limit : Option G) (xs ys : List G) (g : G) → NoneBetween cmp g limit xs → NoneBetween cmp g limit ys → Agreed cmp limit xs ys → (h : G) → cmp g h ≡ Less → count cmp h xs ≡ count cmp h ys
   agrees_above limit xs ys g p q same h l = by_test (below cmp limit h) (λ b. p h l b ∙ sym (q h l b)) (λ b. same h b)
 
   -- a peak of which the loads hold different numbers decides
@@ -195,13 +196,13 @@ module _ {G : Type 0} (cmp : G → G → Standing) (o : Order cmp) where
       by_standing_lem (cmp g h)
       (λ l. agrees_above limit xs ys g p.none_left p.none_right same h l)
       (λ s. subst (λ (k : G). count cmp k xs ≡ count cmp k ys) (o.equal g h s) (sym p.left_is ∙ e ∙ p.right_is))
-      (λ u. absurd (both_ways (is_lower (cmp h g)) out (ap is_lower (below_higher cmp o g h u))))
+      (λ u. absurd (both_ways (is_lt (cmp h g)) out (ap is_lt (below_higher cmp o g h u))))
 
-  below_falls : (limit : Option G) (g x : G) → below cmp limit g ≡ true → cmp x g ≡ Lower → below cmp limit x ≡ true
+  below_falls : (limit : Option G) (g x : G) → below cmp limit g ≡ true → cmp x g ≡ Less → below cmp limit x ≡ true
   below_falls None g x b l = refl
-  below_falls (Some top) g x b l = ap is_lower (o.lower x g top l (is_lower_lem (cmp g top) b))
+  below_falls (Some top) g x b l = ap is_lt (o.lower x g top l (is_lower_lem (cmp g top) b))
 
-  under_here : (limit : Option G) (g : G) → below cmp limit g ≡ true → (x : G) → cond (is_lower (cmp x g)) 1 0 + one (cmp g x) ≤ cond (below cmp limit x) 1 0
+  under_here : (limit : Option G) (g : G) → below cmp limit g ≡ true → (x : G) → cond (is_lt (cmp x g)) 1 0 + one (cmp g x) ≤ cond (below cmp limit x) 1 0
   under_here limit g b x =
       by_standing_lem (cmp g x)
       (λ l. rw (l, above_lower cmp o g x l) (omega arith))
@@ -209,7 +210,7 @@ module _ {G : Type 0} (cmp : G → G → Standing) (o : Order cmp) where
       let alike : cmp x g ≡ Same = ap (λ (y : G). cmp y g) same ∙ o.same g in
       let bx : below cmp limit x ≡ true = ap (below cmp limit) same ∙ b in
       rw (e, alike, bx) (omega arith))
-      (λ u. let l : cmp x g ≡ Lower = below_higher cmp o g x u in rw (u, l, below_falls limit g x b l) (omega arith))
+      (λ u. let l : cmp x g ≡ Less = below_higher cmp o g x u in rw (u, l, below_falls limit g x b l) (omega arith))
 
   under_all : (limit : Option G) (g : G) → below cmp limit g ≡ true → (xs : List G) → under cmp (Some g) xs + count cmp g xs ≤ under cmp limit xs
   under_all limit g b [] = omega arith
@@ -236,13 +237,13 @@ module _ {G : Type 0} (cmp : G → G → Standing) (o : Order cmp) where
         → distinct cmp q (x ∷ xs) ≡ distinct cmp p (x ∷ xs) + cond (eqb (count cmp g (x ∷ xs)) 0) 0 1
     step x xs like rest = by_standing_lem (cmp g x) (λ l. other (apart l lower_not_same)) (λ s. here (o.equal g x s)) (λ u. other (apart u higher_not_same))
       where
-        lower_not_same : Lower ≡ Same → ⊥
+        lower_not_same : Less ≡ Same → ⊥
         lower_not_same s = let z : ◌≡◌ {A = ℕ} 0 1 = cc in omega arith
 
-        higher_not_same : Higher ≡ Same → ⊥
+        higher_not_same : Greater ≡ Same → ⊥
         higher_not_same s = let z : ◌≡◌ {A = ℕ} 0 1 = cc in omega arith
 
-        apart : {s : Standing} → cmp g x ≡ s → (s ≡ Same → ⊥) → x ≡ g → ⊥
+        apart : {s : Ordering} → cmp g x ≡ s → (s ≡ Same → ⊥) → x ≡ g → ⊥
         apart e differs same = differs (sym e ∙ ap (cmp g) same ∙ o.same g)
 
         other : (x ≡ g → ⊥) → distinct cmp q (x ∷ xs) ≡ distinct cmp p (x ∷ xs) + cond (eqb (count cmp g (x ∷ xs)) 0) 0 1
@@ -289,15 +290,15 @@ module _ {G : Type 0} (cmp : G → G → Standing) (o : Order cmp) where
       held : eqb (count cmp g xs) 0 ≡ false
       held = ne_eqb (count cmp g xs) 0 (λ z. omega (arith, z, p.some, p.left_is, e))
 
-      no_lower : is_lower (cmp g g) ≡ false
-      no_lower = ap is_lower (o.same g)
+      no_lower : is_lt (cmp g g) ≡ false
+      no_lower = ap is_lt (o.same g)
 
       same : (x : G) → 0 < count cmp x xs → (x ≡ g → ⊥) → passed cmp limit x ≡ passed cmp (Some g) x
       same x some ne =
           by_standing_lem (cmp g x)
-          (λ l. ap not (by_test (below cmp limit x) (λ b. absurd (omega (arith, some, p.none_left x l b))) (λ b. b ∙ sym (ap is_lower (above_lower cmp o g x l)))))
+          (λ l. ap not (by_test (below cmp limit x) (λ b. absurd (omega (arith, some, p.none_left x l b))) (λ b. b ∙ sym (ap is_lt (above_lower cmp o g x l)))))
           (λ s. absurd (ne (sym (o.equal g x s))))
-          (λ u. let l : cmp x g ≡ Lower = below_higher cmp o g x u in ap not (below_falls limit g x p.under l ∙ sym (ap is_lower l)))
+          (λ u. let l : cmp x g ≡ Less = below_higher cmp o g x u in ap not (below_falls limit g x p.under l ∙ sym (ap is_lt l)))
 
       grows : distinct cmp (passed cmp (Some g)) xs ≡ distinct cmp (passed cmp limit) xs + 1
       grows = rw held at (distinct_more (passed cmp limit) (passed cmp (Some g)) g (ap not p.under) (ap not no_lower) xs same)
@@ -307,12 +308,12 @@ module _ {G : Type 0} (cmp : G → G → Standing) (o : Order cmp) where
   passed_all limit xs none =
       grades_passed_lem limit xs ∙ distinct_like (passed cmp limit) (λ _. true) xs (λ x some. ap not (by_test (below cmp limit x) (λ b. absurd (omega (arith, some, none x b))) (λ b. b)))
 
-  pub passed_above : (limit : Option G) (xs ys : List G) (g : G) (m n : ℕ) → PeakIs cmp limit xs ys g m n → grades_passed cmp limit xs ≡ distinct cmp (λ x. is_lower (cmp g x)) xs
-  passed_above limit xs ys g m n p = grades_passed_lem limit xs ∙ distinct_like (passed cmp limit) (λ x. is_lower (cmp g x)) xs same
+  pub passed_above : (limit : Option G) (xs ys : List G) (g : G) (m n : ℕ) → PeakIs cmp limit xs ys g m n → grades_passed cmp limit xs ≡ distinct cmp (λ x. is_lt (cmp g x)) xs
+  passed_above limit xs ys g m n p = grades_passed_lem limit xs ∙ distinct_like (passed cmp limit) (λ x. is_lt (cmp g x)) xs same
     where
-      same : (x : G) → 0 < count cmp x xs → passed cmp limit x ≡ is_lower (cmp g x)
+      same : (x : G) → 0 < count cmp x xs → passed cmp limit x ≡ is_lt (cmp g x)
       same x some =
           by_standing_lem (cmp g x)
-          (λ l. by_test (below cmp limit x) (λ b. absurd (omega (arith, some, p.none_left x l b))) (λ b. ap not b ∙ sym (ap is_lower l)))
-          (λ s. ap not (ap (below cmp limit) (sym (o.equal g x s)) ∙ p.under) ∙ sym (ap is_lower s))
-          (λ u. ap not (below_falls limit g x p.under (below_higher cmp o g x u)) ∙ sym (ap is_lower u))
+          (λ l. by_test (below cmp limit x) (λ b. absurd (omega (arith, some, p.none_left x l b))) (λ b. ap not b ∙ sym (ap is_lt l)))
+          (λ s. ap not (ap (below cmp limit) (sym (o.equal g x s)) ∙ p.under) ∙ sym (ap is_lt s))
+          (λ u. ap not (below_falls limit g x p.under (below_higher cmp o g x u)) ∙ sym (ap is_lt u))

@@ -3,7 +3,7 @@ use Rattle.std.proofs.Common.{◌≡◌, ℕ, zero, suc, ◌<◌, ◌≤◌, fal
 use Rattle.std.specs.List.{AllByRecursion}
 use Rattle.std.proofs.lemmas.Bool.{cases_eq, cond_both, ltb-true, ltb-false, lt-ltb, le-ltb}
 use Rattle.std.proofs.lemmas.Bool.Decides.{nat_tests}
-use Rattle.loads.specs.declared.grades.Standing.TheVariants.{Lower}
+use Rattle.std.specs.declared.cmp.Ordering.TheVariants.{Less}
 use Rattle.loads.specs.declared.weighing.Weight.{Weight}
 use Rattle.loads.specs.declared.weighing.Weight.TheVariants.{Lighter as lighter, Heavier as heavier}
 use Rattle.loads.specs.Grades.{Order}
@@ -21,10 +21,10 @@ rank_order = record {
   lower = λ a b c p q. grind (arith, nat_tests);
 }
 
-pub rank_lower : (a b : ℕ) → by_rank a b ≡ Lower → a < b
+pub rank_lower : (a b : ℕ) → by_rank a b ≡ Less → a < b
 rank_lower a b e = grind (arith, nat_tests)
 
-pub lower_rank : (a b : ℕ) → a < b → by_rank a b ≡ Lower
+pub lower_rank : (a b : ℕ) → a < b → by_rank a b ≡ Less
 lower_rank a b l = grind (arith, nat_tests)
 
 -- a rank from d on does not occur

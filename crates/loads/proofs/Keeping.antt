@@ -5,7 +5,7 @@ use Rattle.std.proofs.lemmas.List.Sums.{sum_by-cons}
 use Rattle.std.proofs.lemmas.List.Sorted.{sum_by-IsPermutation}
 use lib.Seq.{set_split, split_at}
 use Rattle.std.proofs.lemmas.Bool.{ltb-true, ltb-false, cond_both, cases_order}
-use Rattle.loads.specs.declared.grades.Standing.{Standing}
+use Rattle.std.specs.declared.cmp.Ordering.{Ordering}
 use Rattle.loads.specs.declared.weighing.Weight.{Weight}
 use Rattle.loads.specs.declared.weighing.Weight.TheVariants.{Lighter as lighter, Equal as equal, Heavier as heavier}
 use Rattle.loads.specs.Grades.{Order}
@@ -16,15 +16,15 @@ use Rattle.loads.proofs.Counting.{one, by_standing_lem, below_higher}
 use Rattle.loads.proofs.Weights.{more_weighed, one_answer, not_both, not_each, trans, added, lowered}
 use Rattle.loads.proofs.Agreement.{weighed_only}
 
-count_is_sum : {G : Type 0} (cmp : G → G → Standing) (g : G) (xs : List G) → count cmp g xs ≡ sum_by (λ x. one (cmp g x)) xs
+count_is_sum : {G : Type 0} (cmp : G → G → Ordering) (g : G) (xs : List G) → count cmp g xs ≡ sum_by (λ x. one (cmp g x)) xs
 count_is_sum cmp g [] = refl
 count_is_sum cmp g (x ∷ xs) = omega (arith, sum_by-cons (λ y. one (cmp g y)) x xs, count_is_sum cmp g xs)
 
 -- a load holds as many of each grade in any order
-pub count_shuffled : {G : Type 0} (cmp : G → G → Standing) (g : G) (xs us : List G) → IsPermutation xs us → count cmp g us ≡ count cmp g xs + 0
+pub count_shuffled : {G : Type 0} (cmp : G → G → Ordering) (g : G) (xs us : List G) → IsPermutation xs us → count cmp g us ≡ count cmp g xs + 0
 count_shuffled cmp g xs us s = omega (arith, count_is_sum cmp g xs, count_is_sum cmp g us, sum_by-IsPermutation (λ x. one (cmp g x)) xs us s)
 
-module _ {G : Type 0} (cmp : G → G → Standing) (o : Order cmp) where
+module _ {G : Type 0} (cmp : G → G → Ordering) (o : Order cmp) where
   not_heavier_when : (xs ys : List G) (w : Weight) → Weighed cmp w xs ys → MatchBool (is_not_heavier w) (NotHeavier cmp xs ys) (NotHeavier cmp xs ys → ⊥)
   not_heavier_when xs ys lighter h = inl h
   not_heavier_when xs ys equal h = inr h

@@ -1,8 +1,8 @@
 -- The laws of weighing.
 use Rattle.std.proofs.Common.{◌≡◌, ℕ, suc, ◌+◌, ◌<◌, List, [], ◌∷◌, ◌++◌, length, get_or, take, drop, set, sym, refl, ap, ◌∙◌, subst, inl, inr, arith}
 use lib.Seq.{set_split, split_at}
-use Rattle.loads.specs.declared.grades.Standing.{Standing}
-use Rattle.loads.specs.declared.grades.Standing.TheVariants.{Lower, Higher}
+use Rattle.std.specs.declared.cmp.Ordering.{Ordering}
+use Rattle.std.specs.declared.cmp.Ordering.TheVariants.{Less, Greater}
 use Rattle.loads.specs.declared.weighing.Weight.{Weight}
 use Rattle.loads.specs.declared.weighing.Weight.TheVariants.{Lighter as lighter, Equal as equal, Heavier as heavier}
 use Rattle.loads.specs.Grades.{Order}
@@ -11,29 +11,29 @@ use Rattle.loads.specs.Laws.{NoneHigher}
 use Rattle.loads.proofs.Counting.{one, by_standing_lem, count_append, below_higher, one_here, one_higher}
 
 -- what a member adds, wherever it stands
-pub count_insert : {G : Type 0} (cmp : G → G → Standing) (g x : G) (us vs : List G) → count cmp g (us ++ (x ∷ vs)) ≡ count cmp g (us ++ vs) + one (cmp g x)
+pub count_insert : {G : Type 0} (cmp : G → G → Ordering) (g x : G) (us vs : List G) → count cmp g (us ++ (x ∷ vs)) ≡ count cmp g (us ++ vs) + one (cmp g x)
 count_insert cmp g x us vs = omega (arith, count_append cmp g us (x ∷ vs), count_append cmp g us vs)
 
 -- loads that each have d h more of each grade h weigh alike
-pub more_lighter : {G : Type 0} (cmp : G → G → Standing) (d : G → ℕ) (xs ys us vs : List G) → ((h : G) → count cmp h us ≡ count cmp h xs + d h) → ((h : G) → count cmp h vs ≡ count cmp h ys + d h) → Lighter cmp xs ys → Lighter cmp us vs
+pub more_lighter : {G : Type 0} (cmp : G → G → Ordering) (d : G → ℕ) (xs ys us vs : List G) → ((h : G) → count cmp h us ≡ count cmp h xs + d h) → ((h : G) → count cmp h vs ≡ count cmp h ys + d h) → Lighter cmp xs ys → Lighter cmp us vs
 more_lighter cmp d xs ys us vs p q l =
     (l.0, omega (arith, p l.0, q l.0, l.1), λ h u. omega (arith, p h, q h, l.2 h u))
 
-pub more_weighed : {G : Type 0} (cmp : G → G → Standing) (d : G → ℕ) (xs ys us vs : List G) → ((h : G) → count cmp h us ≡ count cmp h xs + d h) → ((h : G) → count cmp h vs ≡ count cmp h ys + d h) → (w : Weight) → Weighed cmp w xs ys → Weighed cmp w us vs
+pub more_weighed : {G : Type 0} (cmp : G → G → Ordering) (d : G → ℕ) (xs ys us vs : List G) → ((h : G) → count cmp h us ≡ count cmp h xs + d h) → ((h : G) → count cmp h vs ≡ count cmp h ys + d h) → (w : Weight) → Weighed cmp w xs ys → Weighed cmp w us vs
 more_weighed cmp d xs ys us vs p q lighter l = more_lighter cmp d xs ys us vs p q l
 more_weighed cmp d xs ys us vs p q equal e = λ h. omega (arith, p h, q h, e h)
 more_weighed cmp d xs ys us vs p q heavier l = more_lighter cmp d ys xs vs us q p l
 
-pub less_lighter : {G : Type 0} (cmp : G → G → Standing) (d : G → ℕ) (xs ys us vs : List G) → ((h : G) → count cmp h us ≡ count cmp h xs + d h) → ((h : G) → count cmp h vs ≡ count cmp h ys + d h) → Lighter cmp us vs → Lighter cmp xs ys
+pub less_lighter : {G : Type 0} (cmp : G → G → Ordering) (d : G → ℕ) (xs ys us vs : List G) → ((h : G) → count cmp h us ≡ count cmp h xs + d h) → ((h : G) → count cmp h vs ≡ count cmp h ys + d h) → Lighter cmp us vs → Lighter cmp xs ys
 less_lighter cmp d xs ys us vs p q l =
     (l.0, omega (arith, p l.0, q l.0, l.1), λ h u. omega (arith, p h, q h, l.2 h u))
 
-pub less_weighed : {G : Type 0} (cmp : G → G → Standing) (d : G → ℕ) (xs ys us vs : List G) → ((h : G) → count cmp h us ≡ count cmp h xs + d h) → ((h : G) → count cmp h vs ≡ count cmp h ys + d h) → (w : Weight) → Weighed cmp w us vs → Weighed cmp w xs ys
+pub less_weighed : {G : Type 0} (cmp : G → G → Ordering) (d : G → ℕ) (xs ys us vs : List G) → ((h : G) → count cmp h us ≡ count cmp h xs + d h) → ((h : G) → count cmp h vs ≡ count cmp h ys + d h) → (w : Weight) → Weighed cmp w us vs → Weighed cmp w xs ys
 less_weighed cmp d xs ys us vs p q lighter l = less_lighter cmp d xs ys us vs p q l
 less_weighed cmp d xs ys us vs p q equal e = λ h. omega (arith, p h, q h, e h)
 less_weighed cmp d xs ys us vs p q heavier l = less_lighter cmp d ys xs vs us q p l
 
-module _ {G : Type 0} (cmp : G → G → Standing) (o : Order cmp) where
+module _ {G : Type 0} (cmp : G → G → Ordering) (o : Order cmp) where
   pub not_both : (xs ys : List G) → Lighter cmp xs ys → Equal cmp xs ys → ⊥
   not_both xs ys l e = omega (arith, l.1, e l.0)
 
@@ -51,8 +51,8 @@ module _ {G : Type 0} (cmp : G → G → Standing) (o : Order cmp) where
       (λ u. (k.0, omega (arith, l.2 k.0 u, k.1), λ h v. l.2 h (o.lower l.0 k.0 h u v) ∙ k.2 h v))
       (λ e. let same : l.0 ≡ k.0 = o.equal l.0 k.0 e in
       let less : count cmp l.0 ys < count cmp l.0 zs = subst (λ (g : G). count cmp g ys < count cmp g zs) (sym same) k.1 in
-      (l.0, omega (arith, l.1, less), λ h v. l.2 h v ∙ k.2 h (subst (λ (g : G). cmp g h ≡ Lower) same v)))
-      (λ u. let d : cmp k.0 l.0 ≡ Lower = below_higher cmp o l.0 k.0 u in
+      (l.0, omega (arith, l.1, less), λ h v. l.2 h v ∙ k.2 h (subst (λ (g : G). cmp g h ≡ Less) same v)))
+      (λ u. let d : cmp k.0 l.0 ≡ Less = below_higher cmp o l.0 k.0 u in
       (l.0, omega (arith, k.2 l.0 d, l.1), λ h v. l.2 h v ∙ k.2 h (o.lower k.0 l.0 h d v)))
 
   pub trans_equal : (xs ys zs : List G) → Lighter cmp xs ys → Equal cmp ys zs → Lighter cmp xs zs
@@ -84,14 +84,14 @@ module _ {G : Type 0} (cmp : G → G → Standing) (o : Order cmp) where
   longer x us vs =
       (x, omega (arith, count_insert cmp x x us vs, one_here cmp o x), λ h u. omega (arith, count_insert cmp h x us vs, one_higher cmp o x h u))
 
-  pub lowered : (x y : G) (us vs : List G) → cmp x y ≡ Lower → Lighter cmp (us ++ (x ∷ vs)) (us ++ (y ∷ vs))
+  pub lowered : (x y : G) (us vs : List G) → cmp x y ≡ Less → Lighter cmp (us ++ (x ∷ vs)) (us ++ (y ∷ vs))
   lowered x y us vs l = (
     y,
     omega (arith, count_insert cmp y x us vs, count_insert cmp y y us vs, one_here cmp o y, one_higher cmp o x y l),
     λ h u. omega (arith, count_insert cmp h x us vs, count_insert cmp h y us vs, one_higher cmp o y h u, one_higher cmp o x h (o.lower x y h l u)),
   )
 
-  pub lowered_at : (x d : G) (ys : List G) (i : ℕ) → i < length ys → cmp x (get_or ys i d) ≡ Lower → Lighter cmp (set ys i x) ys
+  pub lowered_at : (x d : G) (ys : List G) (i : ℕ) → i < length ys → cmp x (get_or ys i d) ≡ Less → Lighter cmp (set ys i x) ys
   lowered_at x d ys i within l =
       let lower : Lighter cmp (take i ys ++ (x ∷ drop (suc i) ys)) (take i ys ++ (get_or ys i d ∷ drop (suc i) ys)) = lowered x (get_or ys i d) (take i ys) (drop (suc i) ys) l in
       let front : Lighter cmp (set ys i x) (take i ys ++ (get_or ys i d ∷ drop (suc i) ys)) = subst (λ (zs : List G). Lighter cmp zs (take i ys ++ (get_or ys i d ∷ drop (suc i) ys))) (sym (set_split ys i x within)) lower in
@@ -109,7 +109,7 @@ module _ {G : Type 0} (cmp : G → G → Standing) (o : Order cmp) where
   not_heavier_both xs ys (inr e) q = e
 
   -- one member replaced by one that is not higher
-  pub no_higher : (x y : G) (us vs : List G) → (cmp x y ≡ Higher → ⊥) → NotHeavier cmp (us ++ (x ∷ vs)) (us ++ (y ∷ vs))
+  pub no_higher : (x y : G) (us vs : List G) → (cmp x y ≡ Greater → ⊥) → NotHeavier cmp (us ++ (x ∷ vs)) (us ++ (y ∷ vs))
   no_higher x y us vs n =
       by_standing_lem (cmp x y)
       (λ l. inl (lowered x y us vs l))

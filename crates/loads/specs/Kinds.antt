@@ -1,26 +1,23 @@
 -- The order of each kind of grade.
-use Rattle.std.specs.Prelude.{ℕ, cond, ℤ, int_lt, nat_lt}
-use Rattle.loads.specs.declared.grades.Standing.{Standing}
-use Rattle.loads.specs.declared.grades.Standing.TheVariants.{Lower, Same, Higher}
+use Rattle.std.specs.Prelude.{ℕ}
+use Rattle.std.proofs.Common.{ap}
+use Rattle.std.specs.Cmp.{on_total, int_cmp_total, signed_Decides}
+use Rattle.std.specs.declared.cmp.Ordering.{Ordering}
+use Rattle.std.specs.Ordering.{is_eq, nat_cmp, int_cmp, on, flip_args, then_cmp}
 use Rattle.loads.specs.declared.kinds.Points.{Points}
 use Rattle.loads.specs.declared.kinds.Hand.{Hand}
+use Rattle.loads.specs.Grades.{Order, order_of}
 
 -- ranks, the places of the grades on a scale: a kind of the specifications alone
-abbrev pub by_rank : ℕ → ℕ → Standing
-by_rank a b = cond (nat_lt a b) Lower (cond (nat_lt b a) Higher Same)
+abbrev pub by_rank : ℕ → ℕ → Ordering
+by_rank = nat_cmp
 
-abbrev pub by_integer : ℤ → ℤ → Standing
-by_integer a b = cond (int_lt a b) Lower (cond (int_lt b a) Higher Same)
-
--- the first standing, and where that is the same, the second
-abbrev pub or_else : Standing → Standing → Standing
-or_else Lower s = Lower
-or_else Same s = s
-or_else Higher s = Higher
-
-abbrev pub by_points : Points → Points → Standing
-by_points x y = by_integer x.score y.score
+abbrev pub by_points : Points → Points → Ordering
+by_points x y = int_cmp x.score y.score
 
 -- by the class, and within a class by the year, the later the lower
-abbrev pub by_hand : Hand → Hand → Standing
-by_hand x y = or_else (by_rank x.class y.class) (by_rank y.year x.year)
+abbrev pub by_hand : Hand → Hand → Ordering
+by_hand = then_cmp (on (λ h. h.class) by_rank) (flip_args (on (λ h. h.year) by_rank))
+
+pub points_order : Order by_points
+points_order = order_of (on_total (λ p. p.score) int_cmp_total) (λ x y e. ap (λ s. record { score = s }) ((signed_Decides x.score y.score).0 (ap is_eq e)))

@@ -1,31 +1,23 @@
 // The two kinds of grade that the societies use.
 ghost use Rattle.std.specs.Prelude.{◌≡◌, ◌≢◌};
-ghost use Rattle.loads.specs.declared.grades.Standing.TheVariants.{Lower};
-ghost use Rattle.loads.specs.Kinds.{by_points, by_hand};
+ghost use Rattle.std.specs.Cmp.{partial_order_from_own_ties};
+ghost use Rattle.std.specs.Cmp.Rules.{comparing};
+ghost use Rattle.std.specs.Ordering.{as_partial_cmp};
+ghost use Rattle.std.specs.declared.cmp.Ordering.TheVariants.{Less};
+ghost use Rattle.loads.specs.Kinds.{by_hand, points_order};
 ghost use Rattle.std.proofs.Common.{rules};
 
-use crate::grades::{Grade, Standing};
+use crate::grades::Grade;
+use std::cmp::Ordering;
 
 // A mark given by a reader of the register: fewer points are lower.
-#[derive(Clone, Copy, PartialEq, Eq, Debug)]
+#[derive(Clone, Copy, PartialEq, Eq, PartialOrd, Ord, Debug)]
 pub struct Points {
     pub score: i32,
 }
 
 impl Grade for Points {
-    ghost cmp = { by_points };
-
-    ghost order = { Prim.search rules };
-
-    fn compare(&self, other: &Points) -> Standing {
-        if self.score < other.score {
-            Standing::Lower
-        } else if other.score < self.score {
-            Standing::Higher
-        } else {
-            Standing::Same
-        }
-    }
+    ghost order = { points_order };
 }
 
 // A handwriting: its script class and its year. A lower class is lower; within a class the later year is lower.
@@ -39,28 +31,38 @@ impl Hand {
     // The hand of a class whose year nobody knows: year 0, so every dated hand of the class is lower.
     pub fn undated(class: u8) -> Hand
         ensures class { result.class ≡ class }
-        ensures highest { (dated : Hand) → dated.class ≡ class → (dated.year ≢ 0) → by_hand dated result ≡ Lower }
+        ensures highest { (dated : Hand) → dated.class ≡ class → (dated.year ≢ 0) → by_hand dated result ≡ Less }
     {
         Hand { class, year: 0 }
     }
 }
 
-impl Grade for Hand {
+impl Ord for Hand {
     ghost cmp = { by_hand };
 
-    ghost order = { Prim.search rules };
+    ghost total = { Prim.search (comparing, rules) };
 
-    fn compare(&self, other: &Hand) -> Standing {
-        if self.class < other.class {
-            Standing::Lower
-        } else if other.class < self.class {
-            Standing::Higher
-        } else if other.year < self.year {
-            Standing::Lower
-        } else if self.year < other.year {
-            Standing::Higher
-        } else {
-            Standing::Same
-        }
+    ghost matches_partial_cmp = { Prim.search (comparing, rules) };
+
+    ghost matches_eq = { Prim.search (comparing, rules) };
+
+    fn cmp(&self, other: &Hand) -> Ordering {
+        self.class
+            .cmp(&other.class)
+            .then(other.year.cmp(&self.year))
     }
+}
+
+impl PartialOrd for Hand {
+    ghost partial_cmp = { as_partial_cmp by_hand };
+
+    ghost laws = { partial_order_from_own_ties (Prim.search (comparing, rules)) (Prim.search (comparing, rules)) };
+
+    fn partial_cmp(&self, other: &Hand) -> Option<Ordering> {
+        Some(self.cmp(other))
+    }
+}
+
+impl Grade for Hand {
+    ghost order = { Prim.search rules };
 }

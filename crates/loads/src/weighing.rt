@@ -4,7 +4,8 @@ ghost use Rattle.loads.specs.Laws.{Weighs, Replaced, Exchange, NoMember};
 ghost use Rattle.loads.specs.Loads.{NotHeavier};
 ghost use Rattle.loads.specs.Weighing.{below, seen, times, Raised, Top, HigherOf, Peak, Decided, decided_by, distinct, above};
 
-use crate::grades::{Grade, Standing};
+use crate::grades::Grade;
+use std::cmp::Ordering;
 
 // What the left load is against the right.
 #[derive(Clone, Copy, PartialEq, Eq, Debug)]
@@ -34,7 +35,7 @@ fn is_below<G: Grade>(x: &G, limit: Option<&G>) -> bool
 {
     match limit {
         None => true,
-        Some(top) => matches!(x.compare(top), Standing::Lower),
+        Some(top) => matches!(x.cmp(top), Ordering::Less),
     }
 }
 
@@ -46,13 +47,13 @@ fn raised<'a, G: Grade>(top: Option<Held<'a, G>>, x: &'a G) -> Held<'a, G>
     let Some(held) = top else {
         return Held { grade: x, count: 1 };
     };
-    match x.compare(held.grade) {
-        Standing::Lower => held,
-        Standing::Same => Held {
+    match x.cmp(held.grade) {
+        Ordering::Less => held,
+        Ordering::Equal => Held {
             grade: held.grade,
             count: held.count + 1,
         },
-        Standing::Higher => Held { grade: x, count: 1 },
+        Ordering::Greater => Held { grade: x, count: 1 },
     }
 }
 
@@ -73,18 +74,18 @@ fn top_below<'a, G: Grade>(limit: Option<&G>, load: &'a [G]) -> Option<Held<'a, 
 fn higher_of<'a, G: Grade>(left: Held<'a, G>, right: Held<'a, G>) -> Tally<'a, G>
     ensures { HigherOf G.cmp left.entry right.entry result }
 {
-    match left.grade.compare(right.grade) {
-        Standing::Lower => Tally {
+    match left.grade.cmp(right.grade) {
+        Ordering::Less => Tally {
             grade: right.grade,
             left: 0,
             right: right.count,
         },
-        Standing::Same => Tally {
+        Ordering::Equal => Tally {
             grade: left.grade,
             left: left.count,
             right: right.count,
         },
-        Standing::Higher => Tally {
+        Ordering::Greater => Tally {
             grade: left.grade,
             left: left.count,
             right: 0,
@@ -189,10 +190,10 @@ pub fn not_heavier<G: Grade>(left: &[G], right: &[G]) -> bool
 fn weigh_replaced<G: Grade>(new: &G, old: &G) -> Weight
     ensures { Replaced G.cmp new.now old.now result }
 {
-    match new.compare(old) {
-        Standing::Lower => Weight::Lighter,
-        Standing::Same => Weight::Equal,
-        Standing::Higher => Weight::Heavier,
+    match new.cmp(old) {
+        Ordering::Less => Weight::Lighter,
+        Ordering::Equal => Weight::Equal,
+        Ordering::Greater => Weight::Heavier,
     }
 }
 

@@ -1,6 +1,6 @@
 -- Rows of cells: who is in one, and what a choice makes of one.
 use Rattle.std.proofs.Common.{◌≡◌, ℕ, zero, suc, ◌+◌, ◌-◌, ◌<◌, ◌≤◌, Bool, true, false, ◌||◌, eqb, ◌⊎◌, List, [], ◌∷◌, ◌++◌, map, length, get_or, sym, refl, ◌∙◌, ap₂, inl, inr, arith, length-append}
-use Rattle.loads.specs.declared.grades.Standing.TheVariants.{Higher}
+use Rattle.std.specs.declared.cmp.Ordering.TheVariants.{Greater}
 use Rattle.loads.specs.Kinds.{by_rank}
 use Rattle.loads.specs.Laws.{NoneHigher}
 use Rattle.loads.specs.Loads.{NotHeavier}
@@ -81,7 +81,7 @@ pub map_same : (cs : List ℕ) (f g : ℕ → ℕ) → ((x : ℕ) → Has cs x �
 map_same [] f g e = refl
 map_same (x ∷ xs) f g e = ap₂ {C = List ℕ} ◌∷◌ (e x (has_here x xs)) (map_same xs f g (λ y m. e y (has_there x xs y m)))
 
-rank_not_higher : (a b : ℕ) → a ≤ b → by_rank a b ≡ Higher → ⊥
+rank_not_higher : (a b : ℕ) → a ≤ b → by_rank a b ≡ Greater → ⊥
 rank_not_higher a b l e = grind (arith, nat_tests)
 
 -- lower ranks at each cell make no heavier load

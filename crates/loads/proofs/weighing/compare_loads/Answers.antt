@@ -7,7 +7,7 @@ use Rattle.loads.proofs.weighing.compare_loads.Goals as goal
 
 pub returns-then-tally : goal.returns-then-tally
 returns-then-tally g c =
-    let cmp = g.G.Grade.cmp in
+    let cmp = g.G.Ord.cmp in
     let o = g.met.G.Grade.order in
     let t = c.in-Some.tally in
     let peak = c.in-Some.ensures in
@@ -21,16 +21,16 @@ returns-then-tally g c =
 pub overflow_add-agreed : goal.overflow_add-agreed
 overflow_add-agreed g c =
     let t = c.in-Some.tally in
-    omega (arith, c.loop-tally.invariant.1, (passed_more g.G.Grade.cmp g.met.G.Grade.order (seen c.loop-tally.limit) c.args.left.now c.args.right.now t.grade.now t.left t.right c.in-Some.ensures c.if-tally.false).1)
+    omega (arith, c.loop-tally.invariant.1, (passed_more g.G.Ord.cmp g.met.G.Grade.order (seen c.loop-tally.limit) c.args.left.now c.args.right.now t.grade.now t.left t.right c.in-Some.ensures c.if-tally.false).1)
 
 pub loop-tally-smaller : goal.loop-tally-smaller
 loop-tally-smaller g c =
     let t = c.in-Some.tally in
-    under_falls g.G.Grade.cmp g.met.G.Grade.order (seen c.loop-tally.limit) c.args.left.now c.args.right.now t.grade.now t.left t.right c.in-Some.ensures c.if-tally.false
+    under_falls g.G.Ord.cmp g.met.G.Grade.order (seen c.loop-tally.limit) c.args.left.now c.args.right.now t.grade.now t.left t.right c.in-Some.ensures c.if-tally.false
 
 pub loop-tally-preserved : goal.loop-tally-preserved
 loop-tally-preserved g c =
-    let cmp = g.G.Grade.cmp in
+    let cmp = g.G.Ord.cmp in
     let o = g.met.G.Grade.order in
     let t = c.in-Some.tally in
     let peak = c.in-Some.ensures in
@@ -41,7 +41,7 @@ loop-tally-preserved g c =
 
 pub returns : goal.returns
 returns g c =
-    let cmp = g.G.Grade.cmp in
+    let cmp = g.G.Ord.cmp in
     let o = g.met.G.Grade.order in
     let none = c.in_default.ensures in
     let agree = all_agree cmp o (seen c.loop-tally.limit) c.args.left.now c.args.right.now none.0 none.1 c.loop-tally.invariant.0 in

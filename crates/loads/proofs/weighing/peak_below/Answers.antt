@@ -4,16 +4,16 @@ use Rattle.loads.proofs.weighing.peak_below.Goals as goal
 
 pub returns-in-Some-Some : goal.returns-in-Some-Some
 returns-in-Some-Some g c =
-    peak_both g.G.Grade.cmp g.met.G.Grade.order (seen c.args.limit) c.args.left.now c.args.right.now c.in-Some-Some.l c.in-Some-Some.r c.higher_of.result
+    peak_both g.G.Ord.cmp g.met.G.Grade.order (seen c.args.limit) c.args.left.now c.args.right.now c.in-Some-Some.l c.in-Some-Some.r c.higher_of.result
     c.in-Some-Some.ensures c.in-Some-Some.ensures' c.higher_of.ensures
 
 pub returns-in-Some-None : goal.returns-in-Some-None
 returns-in-Some-None g c =
-    peak_alone g.G.Grade.cmp g.met.G.Grade.order (seen c.args.limit) c.args.left.now c.args.right.now c.in-Some-None.l.grade.now c.in-Some-None.l.count
+    peak_alone g.G.Ord.cmp g.met.G.Grade.order (seen c.args.limit) c.args.left.now c.args.right.now c.in-Some-None.l.grade.now c.in-Some-None.l.count
     c.in-Some-None.ensures c.in-Some-None.ensures'
 
 pub returns-in-None-Some : goal.returns-in-None-Some
 returns-in-None-Some g c =
-    peak_turned g.G.Grade.cmp g.met.G.Grade.order (seen c.args.limit) c.args.right.now c.args.left.now c.in-None-Some.r.grade.now c.in-None-Some.r.count 0
-    (peak_alone g.G.Grade.cmp g.met.G.Grade.order (seen c.args.limit) c.args.right.now c.args.left.now c.in-None-Some.r.grade.now c.in-None-Some.r.count
+    peak_turned g.G.Ord.cmp g.met.G.Grade.order (seen c.args.limit) c.args.right.now c.args.left.now c.in-None-Some.r.grade.now c.in-None-Some.r.count 0
+    (peak_alone g.G.Ord.cmp g.met.G.Grade.order (seen c.args.limit) c.args.right.now c.args.left.now c.in-None-Some.r.grade.now c.in-None-Some.r.count
     c.in-None-Some.ensures' c.in-None-Some.ensures)

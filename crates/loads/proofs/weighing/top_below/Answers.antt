@@ -8,7 +8,7 @@ pub raised-requires : goal.raised-requires
 raised-requires g c =
     omega (
       arith,
-      times_le g.G.Grade.cmp g.met.G.Grade.order (seen c.args.limit) (take c.loop-x.x-index c.args.load.now) c.loop-x.top c.loop-x.invariant,
+      times_le g.G.Ord.cmp g.met.G.Grade.order (seen c.args.limit) (take c.loop-x.x-index c.args.load.now) c.loop-x.top c.loop-x.invariant,
       length-take c.loop-x.x-index c.args.load.now,
     )
 
@@ -17,7 +17,7 @@ loop-x-init g c = λ h b. refl
 
 pub loop-x-preserved : goal.loop-x-preserved
 loop-x-preserved g c =
-    let cmp = g.G.Grade.cmp in
+    let cmp = g.G.Ord.cmp in
     let o = g.met.G.Grade.order in
     let limit = seen c.args.limit in
     let load = c.args.load.now in

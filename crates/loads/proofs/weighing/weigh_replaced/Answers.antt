@@ -4,11 +4,11 @@ use Rattle.loads.specs.Laws.{as_weight}
 use Rattle.loads.proofs.Keeping.{replaced}
 use Rattle.loads.proofs.weighing.weigh_replaced.Goals as goal
 
-pub returns-in-Lower : goal.returns-in-Lower
-returns-in-Lower g c = replaced g.G.Grade.cmp g.met.G.Grade.order c.args.new.now c.args.old.now lighter (ap as_weight c.in-Lower.ensures)
+pub returns-in-Less : goal.returns-in-Less
+returns-in-Less g c = replaced g.G.Ord.cmp g.met.G.Grade.order c.args.new.now c.args.old.now lighter (ap as_weight c.in-Less.ensures)
 
-pub returns-in-Same : goal.returns-in-Same
-returns-in-Same g c = replaced g.G.Grade.cmp g.met.G.Grade.order c.args.new.now c.args.old.now equal (ap as_weight c.in-Same.ensures)
+pub returns-in-Equal : goal.returns-in-Equal
+returns-in-Equal g c = replaced g.G.Ord.cmp g.met.G.Grade.order c.args.new.now c.args.old.now equal (ap as_weight c.in-Equal.ensures)
 
-pub returns-in-Higher : goal.returns-in-Higher
-returns-in-Higher g c = replaced g.G.Grade.cmp g.met.G.Grade.order c.args.new.now c.args.old.now heavier (ap as_weight c.in-Higher.ensures)
+pub returns-in-Greater : goal.returns-in-Greater
+returns-in-Greater g c = replaced g.G.Ord.cmp g.met.G.Grade.order c.args.new.now c.args.old.now heavier (ap as_weight c.in-Greater.ensures)
