@@ -6,8 +6,9 @@ use Rattle.std.proofs.lemmas.Bool.{cases_eq, cases_lt, cases_order, cond_both, l
 use Rattle.loads.specs.declared.weighing.Weight.{Weight}
 use Rattle.loads.specs.declared.weighing.Weight.TheVariants.{Lighter as lighter, Equal as equal, Heavier as heavier}
 use Rattle.loads.specs.Counts.{by_counts}
+use Rattle.marking.specs.declared.counts.Counts.{Counts}
 use Rattle.marking.specs.declared.marks.Marks.{Marks}
-use Rattle.marking.specs.Marks.{occurs, AlphaIs, BetaIs, GammaSays, SigmaSays, Marked}
+use Rattle.marking.specs.Marks.{occurs, on_left, on_right, AlphaIs, BetaIs, GammaSays, SigmaSays, Marked}
 use Rattle.marking.proofs.Comparing.{Says}
 
 -- among the ranks below k, f has fewer at the highest where the two differ
@@ -61,18 +62,20 @@ when_same : (t : Bool) (P Q : Type 0) → (P → Q) → (Q → P) → MatchBool 
 when_same true P Q f g w = f w
 when_same false P Q f g w = λ x. w (g x)
 
-pub sigma_by : (xs ys : List ℕ) (b : ℕ) (w : Weight) (t : Bool) → b ≤ length xs → b ≤ length ys
-    → w ≡ by_counts (occurs (take b xs)) (occurs (take b ys)) (max (length (take b xs)) (length (take b ys)))
-    → cond t (w ≡ heavier) (w ≡ heavier → ⊥) → MatchBool t (SigmaSays (occurs xs) (occurs ys) (Some b)) (SigmaSays (occurs xs) (occurs ys) (Some b) → ⊥)
-sigma_by xs ys b w t l m e d =
-    let n : max (length (take b xs)) (length (take b ys)) ≡ b = omega (arith, length-take b xs, length-take b ys) in
-    let f : ℕ → ℕ = occurs (take b xs) in
-    let g : ℕ → ℕ = occurs (take b ys) in
-    let u : (h : ℕ) → h < b → f h ≡ occurs xs h = λ h k. get_or-take b xs h 0 k in
-    let v : (h : ℕ) → h < b → g h ≡ occurs ys h = λ h k. get_or-take b ys h 0 k in
-    when_same t (SigmaSays f g (Some b)) (SigmaSays (occurs xs) (occurs ys) (Some b))
-    (sigma_front f g (occurs xs) (occurs ys) b u v)
-    (sigma_front (occurs xs) (occurs ys) f g b (λ h k. sym (u h k)) (λ h k. sym (v h k)))
+-- σ by what is answered of the ranks below b
+pub sigma_by : (counts : Counts) (b : ℕ) (w : Weight) (t : Bool) → b ≤ 48
+    → w ≡ by_counts (occurs (take b counts.left.now)) (occurs (take b counts.right.now)) (max (length (take b counts.left.now)) (length (take b counts.right.now)))
+    → MatchBool t (w ≡ heavier) (w ≡ heavier → ⊥) → MatchBool t (SigmaSays (on_left counts) (on_right counts) (Some b)) (SigmaSays (on_left counts) (on_right counts) (Some b) → ⊥)
+sigma_by counts b w t l e d =
+    let n : max (length (take b counts.left.now)) (length (take b counts.right.now)) ≡ b =
+        omega (arith, length-take b counts.left.now, length-take b counts.right.now, counts.left_len, counts.right_len) in
+    let f : ℕ → ℕ = occurs (take b counts.left.now) in
+    let g : ℕ → ℕ = occurs (take b counts.right.now) in
+    let u : (h : ℕ) → h < b → f h ≡ on_left counts h = λ h k. get_or-take b counts.left.now h 0 k in
+    let v : (h : ℕ) → h < b → g h ≡ on_right counts h = λ h k. get_or-take b counts.right.now h 0 k in
+    when_same t (SigmaSays f g (Some b)) (SigmaSays (on_left counts) (on_right counts) (Some b))
+    (sigma_front f g (on_left counts) (on_right counts) b u v)
+    (sigma_front (on_left counts) (on_right counts) f g b (λ h k. sym (u h k)) (λ h k. sym (v h k)))
     (sigma_of f g b w (subst (λ (o : Weight). Says o (Front f g b) ((h : ℕ) → h < b → f h ≡ g h) (Front g f b)) (sym (e ∙ ap (by_counts f g) n)) (cmp_front f g b)) t d)
 
 -- past the end nothing is counted

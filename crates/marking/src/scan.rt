@@ -42,7 +42,8 @@ impl Counts<'_> {
         ensures { MatchBool result (SigmaSays (on_left self.now) (on_right self.now) (Some bound)) (SigmaSays (on_left self.now) (on_right self.now) (Some bound) → ⊥) }
     {
         let Counts { left, right } = *self;
-        weigh_counts(&left[..bound], &right[..bound]) == Weight::Heavier
+        let weight = weigh_counts(&left[..bound], &right[..bound]);
+        matches!(weight, Weight::Heavier)
     }
 }
 
