@@ -1,8 +1,8 @@
 -- The marks found from the top are the marks, and there are no others.
-use Rattle.std.proofs.Common.{◌≡◌, ℕ, zero, suc, ◌<◌, ◌≤◌, max, Bool, true, false, cond, ltb, ◌⊎◌, List, length, take, Some, None, MatchBool, Option, ◌≢◌, sym, refl, ap, ◌∙◌, subst, inl, inr, arith}
+use Rattle.std.proofs.Common.{◌≡◌, ℕ, ◌<◌, ◌≤◌, max, Bool, true, false, cond, ◌⊎◌, List, length, take, Some, None, MatchBool, Option, ◌≢◌, sym, refl, ap, ◌∙◌, subst, ⊎_elim, inl, inr, arith}
 use lib.ListN.{get_or-eq_default}
 use Rattle.std.proofs.lemmas.List.{get_or-take, length-take}
-use Rattle.std.proofs.lemmas.Bool.{cases_eq, cases_lt, cases_order, cond_both, ltb-true, ltb-false}
+use Rattle.std.proofs.lemmas.Bool.{cases_lt, cases_order}
 use Rattle.loads.specs.declared.weighing.Weight.{Weight}
 use Rattle.loads.specs.declared.weighing.Weight.TheVariants.{Lighter as lighter, Equal as equal, Heavier as heavier}
 use Rattle.loads.specs.Counts.{by_counts}
@@ -10,33 +10,7 @@ use Rattle.marking.specs.declared.counts.Counts.{Counts}
 use Rattle.marking.specs.declared.marks.Marks.{Marks}
 use Rattle.marking.specs.Marks.{occurs, on_left, on_right, AlphaIs, BetaIs, GammaSays, SigmaSays, Marked}
 use Rattle.marking.proofs.Comparing.{Says}
-
--- among the ranks below k, f has fewer at the highest where the two differ
-abbrev Front : (ℕ → ℕ) → (ℕ → ℕ) → ℕ → Type 0
-Front f g k = (p : ℕ) × (p < k) × (f p < g p) × ((h : ℕ) → p < h → h < k → f h ≡ g h)
-
--- what holds below k and at k holds below k + 1
-upto : (P : ℕ → Type 0) (k : ℕ) → P k → (h : ℕ) → (h < k → P h) → h < suc k → P h
-upto P k here h under l = go (cases_eq k h)
-  where
-    go : (k ≡ h) ⊎ (k ≡ h → ⊥) → P h
-    go (inl e) = subst P e here
-    go (inr n) = under (omega arith)
-
--- the comparison of the ranks below k alone
-pub cmp_front : (f g : ℕ → ℕ) (k : ℕ) → Says (by_counts f g k) (Front f g k) ((h : ℕ) → h < k → f h ≡ g h) (Front g f k)
-cmp_front f g zero = λ h l. absurd (omega arith)
-cmp_front f g (suc k) =
-    cond_both (ltb (f k) (g k)) lighter (cond (ltb (g k) (f k)) heavier (by_counts f g k)) (λ o. Says o (Front f g (suc k)) ((h : ℕ) → h < suc k → f h ≡ g h) (Front g f (suc k)))
-    (λ t. (k, omega arith, ltb-true (f k) (g k) t, λ h l m. absurd (omega arith)))
-    (λ t. cond_both (ltb (g k) (f k)) heavier (by_counts f g k) (λ o. Says o (Front f g (suc k)) ((h : ℕ) → h < suc k → f h ≡ g h) (Front g f (suc k)))
-    (λ s. (k, omega arith, ltb-true (g k) (f k) s, λ h l m. absurd (omega arith)))
-    (λ s. go (omega (arith, ltb-false (f k) (g k) t, ltb-false (g k) (f k) s)) (by_counts f g k) (cmp_front f g k)))
-  where
-    go : f k ≡ g k → (o : Weight) → Says o (Front f g k) ((h : ℕ) → h < k → f h ≡ g h) (Front g f k) → Says o (Front f g (suc k)) ((h : ℕ) → h < suc k → f h ≡ g h) (Front g f (suc k))
-    go e lighter x = (x.0, omega (arith, x.1), x.2, λ h l m. upto (λ h. f h ≡ g h) k e h (x.3 h l) m)
-    go e equal x = λ h. upto (λ h. f h ≡ g h) k e h (x h)
-    go e heavier x = (x.0, omega (arith, x.1), x.2, λ h l m. upto (λ h. g h ≡ f h) k (sym e) h (x.3 h l) m)
+use Rattle.marking.proofs.Order.{Front, cmp_front}
 
 -- σ by comparing the counts below b
 sigma_of : (f g : ℕ → ℕ) (b : ℕ) (w : Weight) → Says w (Front f g b) ((h : ℕ) → h < b → f h ≡ g h) (Front g f b) → (t : Bool) → cond t (w ≡ heavier) (w ≡ heavier → ⊥) → MatchBool t (SigmaSays f g (Some b)) (SigmaSays f g (Some b) → ⊥)
@@ -68,7 +42,7 @@ pub sigma_by : (counts : Counts) (b : ℕ) (w : Weight) (t : Bool) → b ≤ 48
     → MatchBool t (w ≡ heavier) (w ≡ heavier → ⊥) → MatchBool t (SigmaSays (on_left counts) (on_right counts) (Some b)) (SigmaSays (on_left counts) (on_right counts) (Some b) → ⊥)
 sigma_by counts b w t l e d =
     let n : max (length (take b counts.left.now)) (length (take b counts.right.now)) ≡ b =
-        omega (arith, length-take b counts.left.now, length-take b counts.right.now, counts.left_len, counts.right_len) in
+    omega (arith, length-take b counts.left.now, length-take b counts.right.now, counts.left_len, counts.right_len) in
     let f : ℕ → ℕ = occurs (take b counts.left.now) in
     let g : ℕ → ℕ = occurs (take b counts.right.now) in
     let u : (h : ℕ) → h < b → f h ≡ on_left counts h = λ h k. get_or-take b counts.left.now h 0 k in
@@ -133,13 +107,5 @@ AlphaBelow f g k (Some α) = (f α ≢ g α) × ((h : ℕ) → α < h → h < k 
 
 -- is the highest of all, where no others differ
 pub alpha_is : (f g : ℕ → ℕ) (k : ℕ) (r : Option ℕ) → ((h : ℕ) → k ≤ h → f h ≡ g h) → AlphaBelow f g k r → AlphaIs f g r
-alpha_is f g k None e p = λ h. go h (cases_lt h k)
-  where
-    go : (h : ℕ) → (h < k) ⊎ (k ≤ h) → f h ≡ g h
-    go h (inl l) = p h l
-    go h (inr l) = e h l
-alpha_is f g k (Some α) e p = (p.0, λ h m. go h m (cases_lt h k))
-  where
-    go : (h : ℕ) → α < h → (h < k) ⊎ (k ≤ h) → f h ≡ g h
-    go h m (inl l) = p.1 h m l
-    go h m (inr l) = e h l
+alpha_is f g k None e p = λ h. ⊎_elim (p h) (e h) (cases_lt h k)
+alpha_is f g k (Some α) e p = (p.0, λ h m. ⊎_elim (p.1 h m) (e h) (cases_lt h k))
