@@ -2,7 +2,6 @@ pub mod Ends
 pub mod Families
 pub mod Faults
 pub mod Filtered
-pub mod RowCells
 pub mod Rows
 pub mod Rules
 pub mod Support

@@ -1,7 +1,6 @@
 // The rows of a rule, checked: a rule names 1 to 16 cells a row, all below n, none twice.
 ghost use Rattle.std.specs.Prelude.{◌≡◌, ℕ, ◌+◌, ◌<◌, ◌≤◌, ◌++◌, length, MatchBool, MatchResult, slice_index};
-ghost use Rattle.rules.specs.Rows.{RowSized, Below, Past, Repeat, Apart, Fit, Unfit};
-ghost use Rattle.rules.specs.RowCells.{cells};
+ghost use Rattle.rules.specs.Rows.{RowSized, Below, Past, Repeat, Apart, Fit, Unfit, cells};
 
 use crate::faults::RowFault;
 

@@ -1,5 +1,5 @@
 use Rattle.std.proofs.Common.{◌≡◌, ℕ, ◌<◌, false, get_or}
-use Rattle.rules.specs.RowCells.{cells}
+use Rattle.rules.specs.Rows.{cells}
 use Rattle.rules.proofs.rows.Rows.has_repeat.Given as goal
 
 -- no two of the places before i hold the same cell
