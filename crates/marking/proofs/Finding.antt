@@ -8,7 +8,7 @@ use Rattle.loads.specs.declared.weighing.Weight.TheVariants.{Lighter as lighter,
 use Rattle.loads.specs.Counts.{by_counts}
 use Rattle.marking.specs.declared.counts.Counts.{Counts}
 use Rattle.marking.specs.declared.marks.Marks.{Marks}
-use Rattle.marking.specs.Marks.{occurs, on_left, on_right, AlphaIs, BetaIs, GammaSays, SigmaSays, Marked}
+use Rattle.marking.specs.Marks.{occurs, on_left, on_right, AlphaIs, BetaIs, GammaSays, SigmaSays, Marked, OnlyMarks}
 use Rattle.marking.proofs.Comparing.{Says}
 use Rattle.marking.proofs.Order.{Front, cmp_front}
 
@@ -87,7 +87,7 @@ when_one true false P p q = absurd (q p)
 when_one false true P p q = absurd (p q)
 when_one false false P p q = refl
 
-pub only : (ox oy : ℕ → ℕ) (m : Marks) → Marked ox oy m → (n : Marks) → Marked ox oy n → n ≡ m
+only : (ox oy : ℕ → ℕ) (m : Marks) → Marked ox oy m → (n : Marks) → Marked ox oy n → n ≡ m
 only ox oy m p n q =
     let a : n.alpha ≡ m.alpha = alpha_same ox oy n.alpha m.alpha q.alpha_is p.alpha_is in
     let b : n.beta ≡ m.beta = beta_same ox oy m.alpha n.beta m.beta (subst (λ (o : Option ℕ). BetaIs ox oy o n.beta) a q.beta_is) p.beta_is in
@@ -99,6 +99,10 @@ only ox oy m p n q =
     (subst (λ (o : Option ℕ). MatchBool n.sigma (SigmaSays ox oy o) (SigmaSays ox oy o → ⊥)) b q.sigma_is)
     p.sigma_is in
     λ i. record { alpha = a i; beta = b i; gamma = c i; sigma = d i }
+
+-- so what has the marks has the only ones
+pub only_marks : (ox oy : ℕ → ℕ) (m : Marks) → Marked ox oy m → OnlyMarks ox oy m
+only_marks ox oy m p = record { marked = p; alone = only ox oy m p }
 
 -- the highest rank below k whose counts differ
 abbrev pub AlphaBelow : (ℕ → ℕ) → (ℕ → ℕ) → ℕ → Option ℕ → Type 0

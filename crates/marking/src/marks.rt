@@ -1,4 +1,4 @@
-// The four marks. Ranks are counted from 0.
+// The four marks, each by itself as it is defined: nested Options would say no more, and less plainly. Ranks are counted from 0.
 #[derive(Clone, Copy, Default, PartialEq, Eq, Debug)]
 pub struct Marks {
     // the highest rank whose counts differ

@@ -45,29 +45,34 @@ impl Counts<'_> {
         let weight = weigh_counts(&left[..bound], &right[..bound]);
         matches!(weight, Weight::Heavier)
     }
+
+    fn marks(&self) -> Marks
+        ensures { Marked (on_left self.now) (on_right self.now) result }
+    {
+        let alpha = self.highest_difference();
+        let Some(high) = alpha else {
+            return Marks::default();
+        };
+        let beta = self.highest_excess(high);
+        let Some(low) = beta else {
+            return Marks {
+                alpha,
+                ..Marks::default()
+            };
+        };
+        Marks {
+            alpha,
+            beta,
+            gamma: self.agree_between(low, high),
+            sigma: self.is_heavier_below(low),
+        }
+    }
 }
 
 // The marks of two counts, which say how often each rank occurs on the left and on the right.
-#[tactic(auto, using(crate::proofs::Finding::only))]
+#[tactic(auto, using(crate::proofs::Finding::only_marks))]
 pub fn mark(left: &[u8; RANKS], right: &[u8; RANKS]) -> Marks
     ensures { OnlyMarks (occurs left.now) (occurs right.now) result }
 {
-    let counts = Counts { left, right };
-    let alpha = counts.highest_difference();
-    let Some(high) = alpha else {
-        return Marks::default();
-    };
-    let beta = counts.highest_excess(high);
-    let Some(low) = beta else {
-        return Marks {
-            alpha,
-            ..Marks::default()
-        };
-    };
-    Marks {
-        alpha,
-        beta,
-        gamma: counts.agree_between(low, high),
-        sigma: counts.is_heavier_below(low),
-    }
+    Counts { left, right }.marks()
 }

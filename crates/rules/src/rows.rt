@@ -1,5 +1,5 @@
 // The rows of a rule, checked: a rule names 1 to 16 cells a row, all below n, none twice.
-ghost use Rattle.std.specs.Prelude.{◌≡◌, ℕ, ◌+◌, ◌<◌, ◌≤◌, ◌++◌, length, MatchBool, MatchResult, slice_index};
+ghost use Rattle.std.specs.Prelude.{◌≡◌, ◌<◌, length, MatchBool, MatchResult, slice_index};
 ghost use Rattle.rules.specs.Rows.{RowSized, Below, Past, Repeat, Apart, Fit, Unfit, cells};
 
 use crate::faults::RowFault;
@@ -25,8 +25,10 @@ impl Rows<'_> {
     fn are_below(&self, n: usize) -> bool
         ensures { MatchBool result (Below n (cells self.now)) (Past n (cells self.now)) }
     {
-        let mut cells = self.left.iter().chain(self.right);
-        cells.all(|cell| usize::from(*cell) < n)
+        self.left
+            .iter()
+            .chain(self.right)
+            .all(|cell| usize::from(*cell) < n)
     }
 
     fn cell_at(&self, place: usize) -> u8
@@ -40,7 +42,7 @@ impl Rows<'_> {
         }
     }
 
-    // Whether two places hold the same cell.
+    // Whether two places hold the same cell: by loops over the places, which the project's plan wants left by their label.
     fn has_repeat(&self) -> bool
         requires { RowSized self.now.left.now × RowSized self.now.right.now }
         ensures { MatchBool result (Repeat (cells self.now)) (Apart (cells self.now)) }
