@@ -66,17 +66,14 @@ module _ {G : Type 0} (cmp : G → G → Ordering) (o : Order cmp) where
           none_between = λ h l k. omega (arith, count_push cmp h xs x, hi.none_between h (o.lower g x h up l) k, one_higher cmp o x h l);
         }
 
-  at_top : (limit : Option G) (xs : List G) (g k : G) (m n : ℕ) → k ≡ g → n ≡ m → TopIs cmp limit xs g m → TopIs cmp limit xs k n
-  at_top limit xs g k m n p q hi = subst (λ (y : G). TopIs cmp limit xs y n) (sym p) (subst (TopIs cmp limit xs g) (sym q) hi)
-
   -- a member below the limit raises the top
   pub top_raised : (limit : Option G) (xs : List G) (t : Option (Held G)) (x k : G) (n : ℕ) → below cmp limit x ≡ true → Top cmp limit xs t → Raised cmp t x k n → TopIs cmp limit (xs ++ (x ∷ [])) k n
-  top_raised limit xs None x k n b hi r = at_top limit (xs ++ (x ∷ [])) x k 1 n r.0 r.1 (top_first limit xs x b hi)
+  top_raised limit xs None x k n b hi r = rw (r.0, r.1) (top_first limit xs x b hi)
   top_raised limit xs (Some t) x k n b hi r =
       by_standing_lem (cmp x g)
-      (λ e. let s = rw e at r in at_top limit (xs ++ (x ∷ [])) g k m n s.0 s.1 (top_lower limit xs g m x b hi e))
-      (λ e. let s = rw e at r in at_top limit (xs ++ (x ∷ [])) g k (m + 1) n s.0 s.1 (top_same limit xs g m x b hi e))
-      (λ e. let s = rw e at r in at_top limit (xs ++ (x ∷ [])) x k 1 n s.0 s.1 (top_higher limit xs g m x b hi e))
+      (λ e. let s = rw e at r in rw (s.0, s.1) (top_lower limit xs g m x b hi e))
+      (λ e. let s = rw e at r in rw (s.0, s.1) (top_same limit xs g m x b hi e))
+      (λ e. let s = rw e at r in rw (s.0, s.1) (top_higher limit xs g m x b hi e))
     where
       g : G
       g = t.grade.now
@@ -121,22 +118,17 @@ module _ {G : Type 0} (cmp : G → G → Ordering) (o : Order cmp) where
       over h (inl same) = subst (λ (y : G). cmp k y ≡ Less) same e
       over h (inr l) = o.lower k g h e l
 
-  at_peak : (limit : Option G) (xs ys : List G) (g : G) (m n : ℕ) (t : Tally G) → t.grade.now ≡ g → t.left ≡ m → t.right ≡ n → PeakIs cmp limit xs ys g m n → PeakIs cmp limit xs ys t.grade.now t.left t.right
-  at_peak limit xs ys g m n t p q r hi =
-      subst (λ (y : G). PeakIs cmp limit xs ys y t.left t.right) (sym p)
-      (subst (λ x. PeakIs cmp limit xs ys g x t.right) (sym q) (subst (PeakIs cmp limit xs ys g m) (sym r) hi))
-
   pub peak_both : (limit : Option G) (xs ys : List G) (l r : Held G) (t : Tally G) → TopIs cmp limit xs l.grade.now l.count → TopIs cmp limit ys r.grade.now r.count → HigherOf cmp l r t → PeakIs cmp limit xs ys t.grade.now t.left t.right
   peak_both limit xs ys l r t hi lo h =
       by_standing_lem (cmp l.grade.now r.grade.now)
       (λ e. let s = rw e at h in
-      at_peak limit xs ys r.grade.now 0 r.count t s.0 s.1 s.2
+      rw (s.0, s.1, s.2)
       (peak_turned limit ys xs r.grade.now r.count 0 (peak_over limit ys xs r.grade.now l.grade.now r.count l.count lo hi e)))
       (λ e. let s = rw e at h in
       let same : l.grade.now ≡ r.grade.now = o.equal l.grade.now r.grade.now e in
-      at_peak limit xs ys l.grade.now l.count r.count t s.0 s.1 s.2 (peak_same same))
+      rw (s.0, s.1, s.2) (peak_same same))
       (λ e. let s = rw e at h in
-      at_peak limit xs ys l.grade.now l.count 0 t s.0 s.1 s.2
+      rw (s.0, s.1, s.2)
       (peak_over limit xs ys l.grade.now r.grade.now l.count r.count hi lo (below_higher cmp o l.grade.now r.grade.now e)))
     where
       peak_same : l.grade.now ≡ r.grade.now → PeakIs cmp limit xs ys l.grade.now l.count r.count

@@ -1,15 +1,17 @@
 -- Comparing by counts from the top agrees with comparing loads of ranks.
-use Rattle.std.proofs.Common.{◌≡◌, ℕ, zero, suc, ◌<◌, ◌≤◌, false, cond, ltb, List, [], ◌∷◌, sym, refl, ap, ◌∙◌, subst, ⊎_elim, arith}
+use Rattle.std.proofs.Common.{◌≡◌, ℕ, zero, suc, ◌<◌, ◌≤◌, false, cond, ltb, List, [], ◌∷◌, sym, refl, ap, ◌∙◌, subst, ⊎_elim, Some, ◌≢◌, arith}
 use Rattle.std.specs.List.{AllByRecursion}
-use Rattle.std.proofs.lemmas.Bool.{cases_eq, cond_both, ltb-true, ltb-false, lt-ltb, le-ltb}
+use Rattle.std.proofs.lemmas.Bool.{cases_eq, cond_both, ltb-true, ltb-false}
 use Rattle.std.proofs.lemmas.Bool.Decides.{nat_tests}
 use Rattle.std.specs.declared.cmp.Ordering.TheVariants.{Less}
 use Rattle.loads.specs.declared.weighing.Weight.{Weight}
-use Rattle.loads.specs.declared.weighing.Weight.TheVariants.{Lighter as lighter, Heavier as heavier}
+use Rattle.loads.specs.declared.weighing.Weight.TheVariants.{Lighter as lighter, Equal as equal, Heavier as heavier}
 use Rattle.loads.specs.Grades.{Order}
 use Rattle.loads.specs.Kinds.{by_rank}
 use Rattle.loads.specs.Loads.{count, Weighed}
-use Rattle.loads.specs.Counts.{by_counts, ByCounts}
+use Rattle.loads.specs.Laws.{as_weight}
+use Rattle.loads.specs.Counts.{by_counts, AgreeFrom, Deciding, ByCounts}
+use Rattle.std.specs.Ordering.{nat_cmp}
 use Rattle.loads.proofs.Counting.{one_apart}
 
 -- ranks are a kind in total order
@@ -66,22 +68,23 @@ by_counts_lem ox oy d w e = record {
       (weighed_by_counts xs ys d (λ h l. count_past d h l xs x.bounded ∙ sym (count_past d h l ys y.bounded)));
 }
 
--- the walk down, at the rank j below k = j + 1
-module _ (ox oy : ℕ → ℕ) (k j : ℕ) (next : k ≡ suc j) where
-  at_next : by_counts ox oy k ≡ by_counts ox oy (suc j)
-  at_next = ap (by_counts ox oy) next
+module _ (ox oy : ℕ → ℕ) where
+  -- a rank at which the two agree is passed, and one at which they differ decides
+  passed : (k : ℕ) → ox k ≡ oy k → by_counts ox oy (suc k) ≡ by_counts ox oy k
+  passed k e = grind (arith, nat_tests)
 
-  pub fewer_left : ox j < oy j → lighter ≡ by_counts ox oy k
-  fewer_left l = let t = lt-ltb (ox j) (oy j) l in rw (at_next, t)
+  decides : (k : ℕ) → ox k ≢ oy k → by_counts ox oy (suc k) ≡ as_weight (nat_cmp (ox k) (oy k))
+  decides k ne = grind (arith, nat_tests)
 
-  pub fewer_right : oy j < ox j → heavier ≡ by_counts ox oy k
-  fewer_right l =
-      let t = le-ltb (ox j) (oy j) (omega (arith, l)) in
-      let s = lt-ltb (oy j) (ox j) l in
-      rw (at_next, t, s)
+  all_passed : (k d : ℕ) → k ≤ d → AgreeFrom ox oy k d → by_counts ox oy d ≡ by_counts ox oy k
+  all_passed k zero le agree = let e : 0 ≡ k = omega (arith, le) in ap (by_counts ox oy) e
+  all_passed k (suc d) le agree =
+      ⊎_elim (λ e. ap (by_counts ox oy) (sym e))
+      (λ ne. passed d (agree d (omega (arith, le, ne)) (omega arith)) ∙ all_passed k d (omega (arith, le, ne)) (λ r l u. agree r l (omega (arith, u))))
+      (cases_eq k (suc d))
 
-  pub level_there : oy j ≤ ox j → ox j ≤ oy j → by_counts ox oy k ≡ by_counts ox oy j
-  level_there p q =
-      let t = le-ltb (ox j) (oy j) p in
-      let s = le-ltb (oy j) (ox j) q in
-      rw (at_next, t, s)
+  pub none_decides : (d : ℕ) → AgreeFrom ox oy 0 d → ByCounts ox oy d equal
+  none_decides d agree = by_counts_lem ox oy d equal (sym (all_passed 0 d (omega arith) agree))
+
+  pub rank_decides : (d k : ℕ) (w : Weight) → Deciding ox oy d (Some k) → w ≡ as_weight (nat_cmp (ox k) (oy k)) → ByCounts ox oy d w
+  rank_decides d k w found e = by_counts_lem ox oy d w (e ∙ sym (all_passed (suc k) d (omega (arith, found.0)) found.2 ∙ decides k found.1))

@@ -1,17 +1,18 @@
 -- Every answer that holds keeps to the laws of weighing.
-use Rattle.std.proofs.Common.{◌≡◌, ℕ, suc, ◌+◌, ◌<◌, ltb, ◌⊎◌, List, [], ◌∷◌, ◌++◌, length, get_or, take, drop, set, MatchBool, sum_by, sym, refl, ap, ◌∙◌, subst, inl, inr, ⊎_elim, arith}
+use Rattle.std.proofs.Common.{◌≡◌, ℕ, suc, ◌+◌, ◌<◌, List, [], ◌∷◌, ◌++◌, length, get_or, take, drop, set, MatchBool, sum_by, sym, refl, ap, ◌∙◌, subst, inl, inr, ⊎_elim, arith}
 use Rattle.std.specs.List.Sorted.{IsPermutation}
 use Rattle.std.proofs.lemmas.List.Sums.{sum_by-cons}
 use Rattle.std.proofs.lemmas.List.Sorted.{sum_by-IsPermutation}
 use lib.Seq.{set_split, split_at}
-use Rattle.std.proofs.lemmas.Bool.{ltb-true, ltb-false, cond_both, cases_order}
+use Rattle.std.proofs.lemmas.Cmp.{by_ranked, ranked}
+use Rattle.std.specs.Ordering.{nat_cmp}
 use Rattle.std.specs.declared.cmp.Ordering.{Ordering}
 use Rattle.loads.specs.declared.weighing.Weight.{Weight}
 use Rattle.loads.specs.declared.weighing.Weight.TheVariants.{Lighter as lighter, Equal as equal, Heavier as heavier}
 use Rattle.loads.specs.Grades.{Order}
 use Rattle.loads.specs.Loads.{count, NotHeavier, Weighed}
 use Rattle.loads.specs.Laws.{Weighs, is_not_heavier, as_weight, Replaced}
-use Rattle.loads.specs.Weighing.{DecidedAt, decided_by}
+use Rattle.loads.specs.Weighing.{DecidedAt}
 use Rattle.loads.proofs.Counting.{one, by_standing_lem, below_higher}
 use Rattle.loads.proofs.Weights.{more_weighed, one_answer, not_both, not_each, trans, added, lowered}
 use Rattle.loads.proofs.Agreement.{weighed_only}
@@ -58,15 +59,13 @@ module _ {G : Type 0} (cmp : G → G → Ordering) (o : Order cmp) where
           (subst (λ (zs : List G). Weighed cmp (as_weight (cmp new old)) zs (take i xs ++ (old ∷ drop (suc i) xs))) (sym (set_split xs i new within))
           (by_grades new old (take i xs) (drop (suc i) xs)))
 
-  -- what the walk found tells the answer
-  decided_weighed : (xs ys : List G) (g : G) (m n : ℕ) → DecidedAt cmp xs ys g m n → Weighed cmp (decided_by m n) xs ys
+  -- what the walk found tells the answer: the load that holds fewer of the deciding grade is the lighter
+  decided_weighed : (xs ys : List G) (g : G) (m n : ℕ) → DecidedAt cmp xs ys g m n → Weighed cmp (as_weight (nat_cmp m n)) xs ys
   decided_weighed xs ys g m n d =
-      cond_both (ltb m n) lighter heavier (λ w. Weighed cmp w xs ys)
-      (λ t. (g, omega (arith, ltb-true m n t, d.left_is, d.right_is), d.agree))
-      (λ f. (g, omega (arith, ltb-false m n f, differs, d.left_is, d.right_is), λ h l. sym (d.agree h l)))
-    where
-      differs : (m < n) ⊎ (n < m)
-      differs = elim (cases_order m n) [ inl e ↦ absurd (d.differ e) | inr l ↦ l ]
+      by_ranked (m < n) (m ≡ n) (n < m) (nat_cmp m n) (ranked m n (nat_cmp m n) refl)
+      (λ e l. rw e (g, omega (arith, l, d.left_is, d.right_is), d.agree))
+      (λ e s. absurd (d.differ s))
+      (λ e l. rw e (g, omega (arith, l, d.left_is, d.right_is), λ h u. sym (d.agree h u)))
 
-  pub decided_weighs : (xs ys : List G) (g : G) (m n : ℕ) (w : Weight) → DecidedAt cmp xs ys g m n → w ≡ decided_by m n → Weighs cmp xs ys w
+  pub decided_weighs : (xs ys : List G) (g : G) (m n : ℕ) (w : Weight) → DecidedAt cmp xs ys g m n → w ≡ as_weight (nat_cmp m n) → Weighs cmp xs ys w
   decided_weighs xs ys g m n w d e = weighs xs ys w (subst (λ (v : Weight). Weighed cmp v xs ys) (sym e) (decided_weighed xs ys g m n d))

@@ -1,13 +1,11 @@
 -- What the walk down the grades of two loads finds.
-use Rattle.std.specs.Prelude.{◌≡◌, ℕ, ◌+◌, ◌<◌, Bool, true, cond, List, [], ◌∷◌, Some, None, Option, ◌==◌, nat_lt}
+use Rattle.std.specs.Prelude.{◌≡◌, ℕ, ◌+◌, ◌<◌, Bool, true, cond, List, [], ◌∷◌, Some, None, Option, ◌==◌}
 use Rattle.std.specs.Borrow.{Bor}
 use Rattle.std.specs.declared.cmp.Ordering.{Ordering}
 use Rattle.std.specs.declared.cmp.Ordering.TheVariants.{Less}
 use Rattle.std.specs.Ordering.{is_lt, match_ordering}
 use Rattle.loads.specs.declared.weighing.Held.{Held}
 use Rattle.loads.specs.declared.weighing.Tally.{Tally}
-use Rattle.loads.specs.declared.weighing.Weight.{Weight}
-use Rattle.loads.specs.declared.weighing.Weight.TheVariants.{Lighter as lighter, Heavier as heavier}
 use Rattle.loads.specs.Loads.{count, Equal}
 
 -- what an optional reference points to
@@ -82,10 +80,6 @@ pub record DecidedAt {G : Type 0} (cmp : G → G → Ordering) (xs ys : List G) 
 abbrev pub Decided : {G : Type 0} → (G → G → Ordering) → List G → List G → Option (Tally G) → Type 0
 Decided cmp xs ys None = Equal cmp xs ys
 Decided cmp xs ys (Some t) = DecidedAt cmp xs ys t.grade.now t.left t.right
-
--- the load that holds fewer of the deciding grade is the lighter
-abbrev pub decided_by : ℕ → ℕ → Weight
-decided_by left right = cond (nat_lt left right) lighter heavier
 
 -- x is above the deciding grade; where none decides, every grade is
 abbrev pub above : {G : Type 0} → (G → G → Ordering) → Option (Tally G) → G → Bool

@@ -1,6 +1,6 @@
 // Loads of ranks, given by how often each rank occurs.
 ghost use Rattle.std.specs.Prelude.{◌≡◌, max, length, slice_index};
-ghost use Rattle.loads.specs.Counts.{ByCounts};
+ghost use Rattle.loads.specs.Counts.{Deciding, ByCounts};
 
 use crate::weighing::Weight;
 
@@ -8,24 +8,26 @@ use crate::weighing::Weight;
 fn occurrences(counts: &[u8], rank: usize) -> u8
     ensures { result ≡ slice_index counts.now rank }
 {
-    if rank < counts.len() { counts[rank] } else { 0 }
+    counts.get(rank).copied().unwrap_or(0)
 }
 
-// Goes down the ranks below `bound` to the first of which the numbers differ.
+// The highest rank below `bound` of which the numbers differ.
+fn deciding_rank(left: &[u8], right: &[u8], bound: usize) -> Option<usize>
+    ensures { Deciding (λ k. slice_index left.now k) (λ k. slice_index right.now k) bound result }
+{
+    (0..bound).rev().find(|&rank| occurrences(left, rank) != occurrences(right, rank))
+}
+
+// What the left load is against the right, where only the ranks below `bound` are looked at.
 fn weigh_below(left: &[u8], right: &[u8], bound: usize) -> Weight
     ensures { ByCounts (λ k. slice_index left.now k) (λ k. slice_index right.now k) bound result }
 {
-    for rank in (0..bound).rev() {
-        let held = occurrences(left, rank);
-        let against = occurrences(right, rank);
-        if held < against {
-            return Weight::Lighter;
-        }
-        if against < held {
-            return Weight::Heavier;
-        }
+    match deciding_rank(left, right, bound) {
+        Some(rank) => occurrences(left, rank)
+            .cmp(&occurrences(right, rank))
+            .into(),
+        None => Weight::Equal,
     }
-    Weight::Equal
 }
 
 // What the left load is against the right, where `left` and `right` say how often each rank occurs, from rank 0 up.

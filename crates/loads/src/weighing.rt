@@ -1,8 +1,9 @@
 // Loads compared: the highest grade of which the two hold different numbers decides.
 ghost use Rattle.std.specs.Prelude.{◌≡◌, ℕ, ◌+◌, ◌^◌, ◌<◌, MatchBool, MatchResult};
-ghost use Rattle.loads.specs.Laws.{Weighs, Replaced, Exchange, NoMember};
+ghost use Rattle.std.specs.Ordering.{nat_cmp};
+ghost use Rattle.loads.specs.Laws.{Weighs, as_weight, Replaced, Exchange, NoMember};
 ghost use Rattle.loads.specs.Loads.{NotHeavier};
-ghost use Rattle.loads.specs.Weighing.{below, seen, times, Raised, Top, HigherOf, Peak, Decided, decided_by, distinct, above};
+ghost use Rattle.loads.specs.Weighing.{below, seen, times, Raised, Top, HigherOf, Peak, Decided, distinct, above};
 
 use crate::grades::Grade;
 use std::cmp::Ordering;
@@ -13,6 +14,18 @@ pub enum Weight {
     Lighter,
     Equal,
     Heavier,
+}
+
+impl From<Ordering> for Weight {
+    ghost from_gives = { λ order w. w ≡ as_weight order };
+
+    fn from(order: Ordering) -> Weight {
+        match order {
+            Ordering::Less => Weight::Lighter,
+            Ordering::Equal => Weight::Equal,
+            Ordering::Greater => Weight::Heavier,
+        }
+    }
 }
 
 // A grade of a load, with how many members have it.
@@ -30,13 +43,38 @@ pub struct Tally<'a, G> {
     pub right: usize,
 }
 
+impl<'a, G> Held<'a, G> {
+    // The grade as one that the left load alone has.
+    fn on_left(self) -> Tally<'a, G>
+        ensures grade { result.grade.now ≡ self.entry.grade.now }
+        ensures left { result.left ≡ self.entry.count }
+        ensures right { result.right ≡ 0 }
+    {
+        Tally {
+            grade: self.grade,
+            left: self.count,
+            right: 0,
+        }
+    }
+
+    // The grade as one that the right load alone has.
+    fn on_right(self) -> Tally<'a, G>
+        ensures grade { result.grade.now ≡ self.entry.grade.now }
+        ensures left { result.left ≡ 0 }
+        ensures right { result.right ≡ self.entry.count }
+    {
+        Tally {
+            grade: self.grade,
+            left: 0,
+            right: self.count,
+        }
+    }
+}
+
 fn is_below<G: Grade>(x: &G, limit: Option<&G>) -> bool
     ensures { result ≡ below G.cmp (seen limit.entry) x.now }
 {
-    match limit {
-        None => true,
-        Some(top) => matches!(x.cmp(top), Ordering::Less),
-    }
+    limit.is_none_or(|top| x < top)
 }
 
 // The top so far with one more member `x`: a higher one takes its place.
@@ -50,8 +88,8 @@ fn raised<'a, G: Grade>(top: Option<Held<'a, G>>, x: &'a G) -> Held<'a, G>
     match x.cmp(held.grade) {
         Ordering::Less => held,
         Ordering::Equal => Held {
-            grade: held.grade,
             count: held.count + 1,
+            ..held
         },
         Ordering::Greater => Held { grade: x, count: 1 },
     }
@@ -75,21 +113,13 @@ fn higher_of<'a, G: Grade>(left: Held<'a, G>, right: Held<'a, G>) -> Tally<'a, G
     ensures { HigherOf G.cmp left.entry right.entry result }
 {
     match left.grade.cmp(right.grade) {
-        Ordering::Less => Tally {
-            grade: right.grade,
-            left: 0,
-            right: right.count,
-        },
+        Ordering::Less => right.on_right(),
         Ordering::Equal => Tally {
             grade: left.grade,
             left: left.count,
             right: right.count,
         },
-        Ordering::Greater => Tally {
-            grade: left.grade,
-            left: left.count,
-            right: 0,
-        },
+        Ordering::Greater => left.on_left(),
     }
 }
 
@@ -103,30 +133,18 @@ fn peak_below<'a, G: Grade>(
 {
     match (top_below(limit, left), top_below(limit, right)) {
         (None, None) => None,
-        (Some(l), None) => Some(Tally {
-            grade: l.grade,
-            left: l.count,
-            right: 0,
-        }),
-        (None, Some(r)) => Some(Tally {
-            grade: r.grade,
-            left: 0,
-            right: r.count,
-        }),
+        (Some(l), None) => Some(l.on_left()),
+        (None, Some(r)) => Some(r.on_right()),
         (Some(l), Some(r)) => Some(higher_of(l, r)),
     }
 }
 
 impl<G> Tally<'_, G> {
-    // What the left load is against the right, where the two numbers differ and no higher grade's do.
+    // What the left load is against the right, where no higher grade decides: the load that holds fewer is the lighter.
     fn weight(&self) -> Weight
-        ensures { result ≡ decided_by self.now.left self.now.right }
+        ensures { result ≡ as_weight (nat_cmp self.now.left self.now.right) }
     {
-        if self.left < self.right {
-            Weight::Lighter
-        } else {
-            Weight::Heavier
-        }
+        self.left.cmp(&self.right).into()
     }
 }
 
@@ -180,21 +198,14 @@ pub fn weigh<G: Grade>(left: &[G], right: &[G]) -> Weight
 pub fn not_heavier<G: Grade>(left: &[G], right: &[G]) -> bool
     ensures { MatchBool result (NotHeavier G.cmp left.now right.now) (NotHeavier G.cmp left.now right.now → ⊥) }
 {
-    match weigh(left, right) {
-        Weight::Lighter | Weight::Equal => true,
-        Weight::Heavier => false,
-    }
+    weigh(left, right) != Weight::Heavier
 }
 
 // What a load is against what it was before one member `old` was replaced by `new`: only the two grades matter.
 fn weigh_replaced<G: Grade>(new: &G, old: &G) -> Weight
     ensures { Replaced G.cmp new.now old.now result }
 {
-    match new.cmp(old) {
-        Ordering::Less => Weight::Lighter,
-        Ordering::Equal => Weight::Equal,
-        Ordering::Greater => Weight::Heavier,
-    }
+    new.cmp(old).into()
 }
 
 // The member that was taken out of a load, and what the load now is against what it was.
@@ -211,7 +222,8 @@ pub fn exchange<G: Grade>(load: &mut [G], at: usize, new: G) -> Result<Exchanged
     if at >= load.len() {
         return Err(new);
     }
-    let old = std::mem::replace(&mut load[at], new);
-    let weight = weigh_replaced(&load[at], &old);
+    let member = &mut load[at];
+    let old = std::mem::replace(member, new);
+    let weight = weigh_replaced(member, &old);
     Ok(Exchanged { old, weight })
 }

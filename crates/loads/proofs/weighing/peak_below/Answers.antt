@@ -9,11 +9,13 @@ returns-in-Some-Some g c =
 
 pub returns-in-Some-None : goal.returns-in-Some-None
 returns-in-Some-None g c =
-    peak_alone g.G.Ord.cmp g.met.G.Grade.order (seen c.args.limit) c.args.left.now c.args.right.now c.in-Some-None.l.grade.now c.in-Some-None.l.count
-    c.in-Some-None.ensures c.in-Some-None.ensures'
+    rw (c.on_left.ensures.grade, c.on_left.ensures.left, c.on_left.ensures.right)
+    (peak_alone g.G.Ord.cmp g.met.G.Grade.order (seen c.args.limit) c.args.left.now c.args.right.now c.in-Some-None.l.grade.now c.in-Some-None.l.count
+    c.in-Some-None.ensures c.in-Some-None.ensures')
 
 pub returns-in-None-Some : goal.returns-in-None-Some
 returns-in-None-Some g c =
-    peak_turned g.G.Ord.cmp g.met.G.Grade.order (seen c.args.limit) c.args.right.now c.args.left.now c.in-None-Some.r.grade.now c.in-None-Some.r.count 0
+    rw (c.on_right.ensures.grade, c.on_right.ensures.left, c.on_right.ensures.right)
+    (peak_turned g.G.Ord.cmp g.met.G.Grade.order (seen c.args.limit) c.args.right.now c.args.left.now c.in-None-Some.r.grade.now c.in-None-Some.r.count 0
     (peak_alone g.G.Ord.cmp g.met.G.Grade.order (seen c.args.limit) c.args.right.now c.args.left.now c.in-None-Some.r.grade.now c.in-None-Some.r.count
-    c.in-None-Some.ensures' c.in-None-Some.ensures)
+    c.in-None-Some.ensures' c.in-None-Some.ensures))
