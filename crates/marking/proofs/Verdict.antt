@@ -161,11 +161,8 @@ module _ (counts : Counts) (m : Marks) (α : ℕ) (known : FewerAtAlpha (on_left
         flag m.sigma v (Sigma (on_left counts) (on_right counts) β) g
         (subst (λ (o : Option ℕ). MatchBool m.sigma (SigmaSays (on_left counts) (on_right counts) o) (SigmaSays (on_left counts) (on_right counts) o → ⊥)) e known.marked.sigma_is)
 
-    pub beta_more : on_right counts β < on_left counts β
+    beta_more : on_right counts β < on_left counts β
     beta_more = beta_there.1
-
-    pub beta_below : β < α
-    beta_below = beta_there.0
 
     pub no_gamma : not m.gamma ≡ true → IsFloor (on_left counts) (on_right counts) α 0
     no_gamma g = go (cases_lt (on_left counts α + 1) (on_right counts α))
