@@ -1,11 +1,11 @@
 -- The marks found from the top are the marks, and there are no others.
-use Rattle.std.proofs.Common.{◌≡◌, ℕ, ◌<◌, ◌≤◌, max, Bool, true, false, cond, ◌⊎◌, List, length, take, Some, None, MatchBool, Option, ◌≢◌, sym, refl, ap, ◌∙◌, subst, ⊎_elim, inl, inr, arith}
+use Rattle.std.proofs.Common.{◌≡◌, ℕ, ◌<◌, ◌≤◌, max, Bool, true, false, cond, ◌⊎◌, List, length, take, Some, None, MatchBool, Option, sym, refl, ap, ◌∙◌, subst, ⊎_elim, inl, inr, arith}
 use lib.ListN.{get_or-eq_default}
 use Rattle.std.proofs.lemmas.List.{get_or-take, length-take}
 use Rattle.std.proofs.lemmas.Bool.{cases_lt, cases_order}
 use Rattle.loads.specs.declared.weighing.Weight.{Weight}
 use Rattle.loads.specs.declared.weighing.Weight.TheVariants.{Lighter as lighter, Equal as equal, Heavier as heavier}
-use Rattle.loads.specs.Counts.{by_counts}
+use Rattle.loads.specs.Counts.{by_counts, Deciding}
 use Rattle.marking.specs.declared.counts.Counts.{Counts}
 use Rattle.marking.specs.declared.marks.Marks.{Marks}
 use Rattle.marking.specs.Marks.{occurs, on_left, on_right, AlphaIs, BetaIs, GammaSays, SigmaSays, Marked, OnlyMarks}
@@ -104,12 +104,7 @@ only ox oy m p n q =
 pub only_marks : (ox oy : ℕ → ℕ) (m : Marks) → Marked ox oy m → OnlyMarks ox oy m
 only_marks ox oy m p = record { marked = p; alone = only ox oy m p }
 
--- the highest rank below k whose counts differ
-abbrev pub AlphaBelow : (ℕ → ℕ) → (ℕ → ℕ) → ℕ → Option ℕ → Type 0
-AlphaBelow f g k None = (h : ℕ) → h < k → f h ≡ g h
-AlphaBelow f g k (Some α) = (f α ≢ g α) × ((h : ℕ) → α < h → h < k → f h ≡ g h)
-
--- is the highest of all, where no others differ
-pub alpha_is : (f g : ℕ → ℕ) (k : ℕ) (r : Option ℕ) → ((h : ℕ) → k ≤ h → f h ≡ g h) → AlphaBelow f g k r → AlphaIs f g r
-alpha_is f g k None e p = λ h. ⊎_elim (p h) (e h) (cases_lt h k)
-alpha_is f g k (Some α) e p = (p.0, λ h m. ⊎_elim (p.1 h m) (e h) (cases_lt h k))
+-- the highest rank below k whose counts differ is the highest of all, where none from k up differ
+pub alpha_is : (f g : ℕ → ℕ) (k : ℕ) (r : Option ℕ) → ((h : ℕ) → k ≤ h → f h ≡ g h) → Deciding f g k r → AlphaIs f g r
+alpha_is f g k None e p = λ h. ⊎_elim (p h (omega arith)) (e h) (cases_lt h k)
+alpha_is f g k (Some α) e p = (p.1, λ h m. ⊎_elim (p.2 h (omega (arith, m))) (e h) (cases_lt h k))
