@@ -14,7 +14,7 @@ use Rattle.marking.proofs.Order.{Front, cmp_front}
 
 -- σ by comparing the counts below b
 sigma_of : (f g : ℕ → ℕ) (b : ℕ) (w : Weight) → Says w (Front f g b) ((h : ℕ) → h < b → f h ≡ g h) (Front g f b) → (t : Bool) → cond t (w ≡ heavier) (w ≡ heavier → ⊥) → MatchBool t (SigmaSays f g (Some b)) (SigmaSays f g (Some b) → ⊥)
-sigma_of f g b lighter x true e = let z : ◌≡◌ {A = ℕ} 0 1 = cc in absurd (omega arith)
+sigma_of f g b lighter x true e = absurd (cc)
 sigma_of f g b lighter x false e = λ y. meet y (cases_order x.0 y.0)
   where
     meet : (y : SigmaSays f g (Some b)) → (x.0 ≡ y.0) ⊎ ((x.0 < y.0) ⊎ (y.0 < x.0)) → ⊥
@@ -23,7 +23,7 @@ sigma_of f g b lighter x false e = λ y. meet y (cases_order x.0 y.0)
         omega (arith, x.2)
     meet y (inr (inl l)) = omega (arith, x.3 y.0 l y.1, y.2)
     meet y (inr (inr l)) = omega (arith, y.3 x.0 l x.1, x.2)
-sigma_of f g b equal x true e = let z : ◌≡◌ {A = ℕ} 0 1 = cc in absurd (omega arith)
+sigma_of f g b equal x true e = absurd (cc)
 sigma_of f g b equal x false e = λ y. omega (arith, x y.0 y.1, y.2)
 sigma_of f g b heavier x true e = (x.0, x.1, x.2, λ h l m. sym (x.3 h l m))
 sigma_of f g b heavier x false e = absurd (e refl)

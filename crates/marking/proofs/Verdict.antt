@@ -1,8 +1,9 @@
 -- The marks decide: of a change by one, and of a member of a load that is moved.
-use Rattle.std.proofs.Common.{◌≡◌, ℕ, suc, ◌+◌, ◌<◌, ◌≤◌, Bool, true, false, not, ◌⊎◌, List, ◌∷◌, ◌++◌, length, get_or, take, drop, set, Some, None, MatchBool, Option, sym, ap, ◌∙◌, subst, subst₂, inl, inr, arith}
+use Rattle.std.proofs.Common.{◌≡◌, ℕ, suc, ◌+◌, ◌<◌, ◌≤◌, true, false, not, ◌⊎◌, List, ◌∷◌, ◌++◌, length, get_or, take, drop, set, Some, None, MatchBool, Option, sym, ap, ◌∙◌, subst, subst₂, inl, inr, arith}
 use lib.ListN.{get_or-eq_default}
 use lib.Seq.{set_split, split_at}
 use Rattle.std.proofs.lemmas.Bool.{cases_eq, cases_lt, cases_order, not-true}
+use Rattle.std.proofs.lemmas.Bool.Decides.{when_true, when_false}
 use Rattle.loads.specs.Counts.{Counted}
 use Rattle.loads.specs.Kinds.{by_rank}
 use Rattle.loads.specs.Loads.{count, NotHeavier}
@@ -119,10 +120,6 @@ module _ (ox oy : ℕ → ℕ) (px : (h : ℕ) → 48 ≤ h → ox h ≡ 0) (py 
             under f g t l s n (inl m) = absurd (at_alpha_under_beta ox oy f g t α l s β a x b c m n)
             under f g t l s n (inr m) = m
 
--- a mark that is a flag, once its value is known
-flag : (b v : Bool) (P : Type 0) → b ≡ v → MatchBool b P (P → ⊥) → MatchBool v P (P → ⊥)
-flag b v P e w = subst (λ (z : Bool). MatchBool z P (P → ⊥)) e w
-
 -- the same of counts in arrays and the marks found
 module _ (counts : Counts) (m : Marks) (α : ℕ) (known : FewerAtAlpha (on_left counts) (on_right counts) m α) where
   none_left : (h : ℕ) → 48 ≤ h → on_left counts h ≡ 0
@@ -151,15 +148,13 @@ module _ (counts : Counts) (m : Marks) (α : ℕ) (known : FewerAtAlpha (on_left
     beta_there : Beta (on_left counts) (on_right counts) α β
     beta_there = beta_here (Some β) e
 
-    gamma_there : (v : Bool) → m.gamma ≡ v → MatchBool v (Gamma (on_left counts) (on_right counts) α β) (Gamma (on_left counts) (on_right counts) α β → ⊥)
-    gamma_there v g =
-        flag m.gamma v (Gamma (on_left counts) (on_right counts) α β) g
-        (subst₂ (λ (a b : Option ℕ). MatchBool m.gamma (GammaSays (on_left counts) (on_right counts) a b) (GammaSays (on_left counts) (on_right counts) a b → ⊥)) known.at e known.marked.gamma_is)
+    gamma_there : MatchBool m.gamma (Gamma (on_left counts) (on_right counts) α β) (Gamma (on_left counts) (on_right counts) α β → ⊥)
+    gamma_there =
+        subst₂ (λ (a b : Option ℕ). MatchBool m.gamma (GammaSays (on_left counts) (on_right counts) a b) (GammaSays (on_left counts) (on_right counts) a b → ⊥)) known.at e known.marked.gamma_is
 
-    sigma_there : (v : Bool) → m.sigma ≡ v → MatchBool v (Sigma (on_left counts) (on_right counts) β) (Sigma (on_left counts) (on_right counts) β → ⊥)
-    sigma_there v g =
-        flag m.sigma v (Sigma (on_left counts) (on_right counts) β) g
-        (subst (λ (o : Option ℕ). MatchBool m.sigma (SigmaSays (on_left counts) (on_right counts) o) (SigmaSays (on_left counts) (on_right counts) o → ⊥)) e known.marked.sigma_is)
+    sigma_there : MatchBool m.sigma (Sigma (on_left counts) (on_right counts) β) (Sigma (on_left counts) (on_right counts) β → ⊥)
+    sigma_there =
+        subst (λ (o : Option ℕ). MatchBool m.sigma (SigmaSays (on_left counts) (on_right counts) o) (SigmaSays (on_left counts) (on_right counts) o → ⊥)) e known.marked.sigma_is
 
     beta_more : on_right counts β < on_left counts β
     beta_more = beta_there.1
@@ -169,24 +164,27 @@ module _ (counts : Counts) (m : Marks) (α : ℕ) (known : FewerAtAlpha (on_left
       where
         go : (on_left counts α + 1 < on_right counts α) ⊎ (on_right counts α ≤ on_left counts α + 1) → IsFloor (on_left counts) (on_right counts) α 0
         go (inl x) = spare x
-        go (inr x) = floor_no_gamma (on_left counts) (on_right counts) none_left none_right α alpha_here (omega (arith, known.fewer, x)) β beta_there (gamma_there false (not-true m.gamma g))
+        go (inr x) = floor_no_gamma (on_left counts) (on_right counts) none_left none_right α alpha_here (omega (arith, known.fewer, x)) β beta_there (when_false (Gamma (on_left counts) (on_right counts) α β) _ (not-true m.gamma g) gamma_there)
 
     module _ (g : m.gamma ≡ true) (x : on_right counts α ≤ on_left counts α + 1) where
       one_less : on_left counts α + 1 ≡ on_right counts α
       one_less = omega (arith, known.fewer, x)
 
+      gamma_holds : Gamma (on_left counts) (on_right counts) α β
+      gamma_holds = when_true (Gamma (on_left counts) (on_right counts) α β) _ g gamma_there
+
       pub short : on_right counts β + 1 < on_left counts β → IsFloor (on_left counts) (on_right counts) α (β + 1)
-      short y = floor_short (on_left counts) (on_right counts) none_left none_right α alpha_here one_less β beta_there (gamma_there true g) y
+      short y = floor_short (on_left counts) (on_right counts) none_left none_right α alpha_here one_less β beta_there gamma_holds y
 
       pub with_sigma : m.sigma ≡ true → IsFloor (on_left counts) (on_right counts) α (β + 1)
       with_sigma s = go (cases_lt (on_right counts β + 1) (on_left counts β))
         where
           go : (on_right counts β + 1 < on_left counts β) ⊎ (on_left counts β ≤ on_right counts β + 1) → IsFloor (on_left counts) (on_right counts) α (β + 1)
           go (inl y) = short y
-          go (inr y) = floor_sigma (on_left counts) (on_right counts) none_left none_right α alpha_here one_less β beta_there (gamma_there true g) (omega (arith, y, beta_more)) (sigma_there true s)
+          go (inr y) = floor_sigma (on_left counts) (on_right counts) none_left none_right α alpha_here one_less β beta_there gamma_holds (omega (arith, y, beta_more)) (when_true (Sigma (on_left counts) (on_right counts) β) _ s sigma_there)
 
       pub without_sigma : on_left counts β ≤ on_right counts β + 1 → m.sigma ≡ false → IsFloor (on_left counts) (on_right counts) α β
-      without_sigma y s = floor_beta (on_left counts) (on_right counts) none_left none_right α alpha_here one_less β beta_there (gamma_there true g) (omega (arith, y, beta_more)) (sigma_there false s)
+      without_sigma y s = floor_beta (on_left counts) (on_right counts) none_left none_right α alpha_here one_less β beta_there gamma_holds (omega (arith, y, beta_more)) (when_false (Sigma (on_left counts) (on_right counts) β) _ s sigma_there)
 
 -- which floor it is, by the marks
 pub ruleset floors = (no_beta, short, with_sigma, without_sigma)

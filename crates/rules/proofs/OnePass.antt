@@ -1,5 +1,5 @@
 -- One pass of the filter over a rule: what it takes away is a side of each set, and what it leaves stands.
-use Rattle.std.proofs.Common.{◌≡◌, ℕ, ◌≤◌, ◌⊎◌, ◌++◌, map, sym, ap, ◌∙◌, inl, inr, arith}
+use Rattle.std.proofs.Common.{◌≡◌, ℕ, ◌≤◌, ◌⊎◌, ◌++◌, map, inl, inr, arith}
 use Rattle.domains.specs.Sets.{In}
 use Rattle.loads.specs.Kinds.{by_rank}
 use Rattle.loads.specs.Loads.{NotHeavier}
@@ -8,23 +8,14 @@ use Rattle.rules.specs.Rows.{Apart}
 use Rattle.rules.specs.Rules.{Rule, Names, Supported}
 use Rattle.std.specs.List.{Contains}
 use Rattle.std.proofs.lemmas.List.Elements.{Contains-append_left, Contains-append_right, Contains-append_cases}
-use Rattle.rules.proofs.Places.{but_here, but_there}
 use Rattle.rules.proofs.Best.{not_heavier_mono, left_needs, left_suffices, right_needs, right_suffices}
-use Rattle.std.proofs.lemmas.Bool.{cases_eq}
+use Rattle.std.proofs.lemmas.Bool.Decides.{nat_tests}
 
 but_mono : (f : ℕ → ℕ) (c r s x : ℕ) → r ≤ s → but f c r x ≤ but f c s x
-but_mono f c r s x l = go (cases_eq x c)
-  where
-    go : (x ≡ c) ⊎ (x ≡ c → ⊥) → but f c r x ≤ but f c s x
-    go (inl e) = omega (arith, but_here f c r x e, but_here f c s x e)
-    go (inr n) = omega (arith, but_there f c r x n, but_there f c s x n)
+but_mono f c r s x l = grind (arith, nat_tests)
 
 but_own : (f : ℕ → ℕ) (c x : ℕ) → but f c (f c) x ≡ f x
-but_own f c x = go (cases_eq x c)
-  where
-    go : (x ≡ c) ⊎ (x ≡ c → ⊥) → but f c (f c) x ≡ f x
-    go (inl e) = but_here f c (f c) x e ∙ ap f (sym e)
-    go (inr n) = but_there f c (f c) x n
+but_own f c x = grind (arith, nat_tests)
 
 -- a choice from a smaller family is one from a larger
 pub supported_mono : (F G : ℕ → ℕ) (q : Rule) → ((x r : ℕ) → Names q x → In (G x) r → In (F x) r) → (c r : ℕ) → Supported G q c r → Supported F q c r

@@ -1,5 +1,5 @@
 -- Rows of cells: who is in one, and what a choice makes of one.
-use Rattle.std.proofs.Common.{◌≡◌, ℕ, suc, ◌+◌, ◌≤◌, eqb, List, [], ◌∷◌, ◌++◌, map, length, sym, refl, ◌∙◌, ap₂, arith, length-append}
+use Rattle.std.proofs.Common.{◌≡◌, ℕ, suc, ◌+◌, ◌≤◌, List, [], ◌∷◌, ◌++◌, map, length, sym, refl, ◌∙◌, ap₂, arith, length-append}
 use Rattle.std.specs.declared.cmp.Ordering.TheVariants.{Greater}
 use Rattle.loads.specs.Kinds.{by_rank}
 use Rattle.loads.specs.Laws.{NoneHigher}
@@ -11,7 +11,6 @@ use Rattle.rules.specs.Ends.{but}
 use Rattle.rules.specs.Rows.{Apart}
 use Rattle.std.specs.List.{Contains}
 use Rattle.std.proofs.lemmas.List.{get_or_append_left, get_or_default, get_or-append-add}
-use Rattle.std.proofs.lemmas.Bool.{cond-true, cond-false, eq-eqb, ne_eqb}
 
 -- no cell is in both rows
 pub apart_rows : (l r : List ℕ) (c : ℕ) → Apart (l ++ r) → Contains l c → Contains r c → ⊥
@@ -27,10 +26,10 @@ contains_there x xs c m = (suc m.0, omega (arith, m.1), m.2)
 
 -- the changed choice
 pub but_here : (f : ℕ → ℕ) (c r x : ℕ) → x ≡ c → but f c r x ≡ r
-but_here f c r x e = cond-true (eqb x c) r (f x) (eq-eqb x c e)
+but_here f c r x e = grind (arith, nat_tests)
 
 pub but_there : (f : ℕ → ℕ) (c r x : ℕ) → (x ≡ c → ⊥) → but f c r x ≡ f x
-but_there f c r x e = cond-false (eqb x c) r (f x) (ne_eqb x c e)
+but_there f c r x e = grind (arith, nat_tests)
 
 pub map_same : (cs : List ℕ) (f g : ℕ → ℕ) → ((x : ℕ) → Contains cs x → f x ≡ g x) → map f cs ≡ map g cs
 map_same [] f g e = refl
