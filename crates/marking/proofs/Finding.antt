@@ -1,5 +1,7 @@
 -- The marks found from the top are the marks, and there are no others.
-use Rattle.std.proofs.Common.{◌≡◌, ℕ, ◌<◌, ◌≤◌, max, Bool, true, false, cond, ◌⊎◌, List, length, take, Some, None, MatchBool, Option, sym, refl, ap, ◌∙◌, subst, ⊎_elim, inl, inr, arith}
+use Rattle.std.proofs.Common.{◌≡◌, ℕ, ◌<◌, ◌≤◌, max, ◌⊎◌, List, length, take, Some, None, Option, sym, refl, ap, ◌∙◌, subst, ⊎_elim, inl, inr, arith}
+use Rattle.std.specs.Prelude.{◌↔◌, IsTrue}
+use Rattle.std.specs.Bool.{one_answer}
 use lib.ListN.{get_or-eq_default}
 use Rattle.std.proofs.lemmas.List.{get_or-take, length-take}
 use Rattle.std.proofs.lemmas.Bool.{cases_lt, cases_order}
@@ -13,9 +15,8 @@ use Rattle.marking.proofs.Comparing.{Says}
 use Rattle.marking.proofs.Order.{Front, cmp_front}
 
 -- σ by comparing the counts below b
-sigma_of : (f g : ℕ → ℕ) (b : ℕ) (w : Weight) → Says w (Front f g b) ((h : ℕ) → h < b → f h ≡ g h) (Front g f b) → (t : Bool) → cond t (w ≡ heavier) (w ≡ heavier → ⊥) → MatchBool t (SigmaSays f g (Some b)) (SigmaSays f g (Some b) → ⊥)
-sigma_of f g b lighter x true e = absurd (cc)
-sigma_of f g b lighter x false e = λ y. meet y (cases_order x.0 y.0)
+sigma_of : (f g : ℕ → ℕ) (b : ℕ) (w : Weight) → Says w (Front f g b) ((h : ℕ) → h < b → f h ≡ g h) (Front g f b) → (w ≡ heavier) ↔ SigmaSays f g (Some b)
+sigma_of f g b lighter x = (λ e. absurd (cc), λ y. absurd (meet y (cases_order x.0 y.0)))
   where
     meet : (y : SigmaSays f g (Some b)) → (x.0 ≡ y.0) ⊎ ((x.0 < y.0) ⊎ (y.0 < x.0)) → ⊥
     meet y (inl e) =
@@ -23,34 +24,29 @@ sigma_of f g b lighter x false e = λ y. meet y (cases_order x.0 y.0)
         omega (arith, x.2)
     meet y (inr (inl l)) = omega (arith, x.3 y.0 l y.1, y.2)
     meet y (inr (inr l)) = omega (arith, y.3 x.0 l x.1, x.2)
-sigma_of f g b equal x true e = absurd (cc)
-sigma_of f g b equal x false e = λ y. omega (arith, x y.0 y.1, y.2)
-sigma_of f g b heavier x true e = (x.0, x.1, x.2, λ h l m. sym (x.3 h l m))
-sigma_of f g b heavier x false e = absurd (e refl)
+sigma_of f g b equal x = (λ e. absurd (cc), λ y. absurd (omega (arith, x y.0 y.1, y.2)))
+sigma_of f g b heavier x = (λ _. (x.0, x.1, x.2, λ h l m. sym (x.3 h l m)), λ _. refl)
 
 -- only the counts below b matter
 sigma_front : (f g p q : ℕ → ℕ) (b : ℕ) → ((h : ℕ) → h < b → f h ≡ p h) → ((h : ℕ) → h < b → g h ≡ q h) → SigmaSays f g (Some b) → SigmaSays p q (Some b)
 sigma_front f g p q b u v s = (s.0, s.1, omega (arith, s.2, u s.0 s.1, v s.0 s.1), λ h l m. sym (u h m) ∙ s.3 h l m ∙ v h m)
 
-when_same : (t : Bool) (P Q : Type 0) → (P → Q) → (Q → P) → MatchBool t P (P → ⊥) → MatchBool t Q (Q → ⊥)
-when_same true P Q f g w = f w
-when_same false P Q f g w = λ x. w (g x)
-
 -- σ by what is answered of the ranks below b
-pub sigma_by : (counts : Counts) (b : ℕ) (w : Weight) (t : Bool) → b ≤ 48
+pub sigma_by : (counts : Counts) (b : ℕ) (w : Weight) → b ≤ 48
     → w ≡ by_counts (occurs (take b counts.left.now)) (occurs (take b counts.right.now)) (max (length (take b counts.left.now)) (length (take b counts.right.now)))
-    → MatchBool t (w ≡ heavier) (w ≡ heavier → ⊥) → MatchBool t (SigmaSays (on_left counts) (on_right counts) (Some b)) (SigmaSays (on_left counts) (on_right counts) (Some b) → ⊥)
-sigma_by counts b w t l e d =
+    → (w ≡ heavier) ↔ SigmaSays (on_left counts) (on_right counts) (Some b)
+sigma_by counts b w l e =
     let n : max (length (take b counts.left.now)) (length (take b counts.right.now)) ≡ b =
     omega (arith, length-take b counts.left.now, length-take b counts.right.now, counts.left_len, counts.right_len) in
     let f : ℕ → ℕ = occurs (take b counts.left.now) in
     let g : ℕ → ℕ = occurs (take b counts.right.now) in
     let u : (h : ℕ) → h < b → f h ≡ on_left counts h = λ h k. get_or-take b counts.left.now h 0 k in
     let v : (h : ℕ) → h < b → g h ≡ on_right counts h = λ h k. get_or-take b counts.right.now h 0 k in
-    when_same t (SigmaSays f g (Some b)) (SigmaSays (on_left counts) (on_right counts) (Some b))
-    (sigma_front f g (on_left counts) (on_right counts) b u v)
-    (sigma_front (on_left counts) (on_right counts) f g b (λ h k. sym (u h k)) (λ h k. sym (v h k)))
-    (sigma_of f g b w (subst (λ (o : Weight). Says o (Front f g b) ((h : ℕ) → h < b → f h ≡ g h) (Front g f b)) (sym (e ∙ ap (by_counts f g) n)) (cmp_front f g b)) t d)
+    let told : (w ≡ heavier) ↔ SigmaSays f g (Some b) =
+    sigma_of f g b w (subst (λ (o : Weight). Says o (Front f g b) ((h : ℕ) → h < b → f h ≡ g h) (Front g f b)) (sym (e ∙ ap (by_counts f g) n)) (cmp_front f g b)) in (
+      λ q. sigma_front f g (on_left counts) (on_right counts) b u v (told.0 q),
+      λ s. told.1 (sigma_front (on_left counts) (on_right counts) f g b (λ h k. sym (u h k)) (λ h k. sym (v h k)) s),
+    )
 
 -- past the end nothing is counted
 pub past : (xs ys : List ℕ) (h : ℕ) → length xs ≤ h → length ys ≤ h → occurs xs h ≡ occurs ys h
@@ -81,22 +77,16 @@ module _ (ox oy : ℕ → ℕ) where
       go (inr (inl l)) = absurd (omega (arith, p.2 c l q.0, q.1))
       go (inr (inr l)) = absurd (omega (arith, q.2 b l p.0, p.1))
 
-when_one : (s t : Bool) (P : Type 0) → MatchBool s P (P → ⊥) → MatchBool t P (P → ⊥) → s ≡ t
-when_one true true P p q = refl
-when_one true false P p q = absurd (q p)
-when_one false true P p q = absurd (p q)
-when_one false false P p q = refl
-
 only : (ox oy : ℕ → ℕ) (m : Marks) → Marked ox oy m → (n : Marks) → Marked ox oy n → n ≡ m
 only ox oy m p n q =
     let a : n.alpha ≡ m.alpha = alpha_same ox oy n.alpha m.alpha q.alpha_is p.alpha_is in
     let b : n.beta ≡ m.beta = beta_same ox oy m.alpha n.beta m.beta (subst (λ (o : Option ℕ). BetaIs ox oy o n.beta) a q.beta_is) p.beta_is in
-    let c : n.gamma ≡ m.gamma = when_one n.gamma m.gamma (GammaSays ox oy m.alpha m.beta)
-    (subst (λ (o : Option ℕ). MatchBool n.gamma (GammaSays ox oy o m.beta) (GammaSays ox oy o m.beta → ⊥)) a
-    (subst (λ (o : Option ℕ). MatchBool n.gamma (GammaSays ox oy n.alpha o) (GammaSays ox oy n.alpha o → ⊥)) b q.gamma_is))
+    let c : n.gamma ≡ m.gamma = one_answer n.gamma m.gamma
+    (subst (λ (o : Option ℕ). IsTrue n.gamma ↔ GammaSays ox oy o m.beta) a
+    (subst (λ (o : Option ℕ). IsTrue n.gamma ↔ GammaSays ox oy n.alpha o) b q.gamma_is))
     p.gamma_is in
-    let d : n.sigma ≡ m.sigma = when_one n.sigma m.sigma (SigmaSays ox oy m.beta)
-    (subst (λ (o : Option ℕ). MatchBool n.sigma (SigmaSays ox oy o) (SigmaSays ox oy o → ⊥)) b q.sigma_is)
+    let d : n.sigma ≡ m.sigma = one_answer n.sigma m.sigma
+    (subst (λ (o : Option ℕ). IsTrue n.sigma ↔ SigmaSays ox oy o) b q.sigma_is)
     p.sigma_is in
     λ i. record { alpha = a i; beta = b i; gamma = c i; sigma = d i }
 

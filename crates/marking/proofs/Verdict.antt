@@ -1,9 +1,10 @@
 -- The marks decide: of a change by one, and of a member of a load that is moved.
-use Rattle.std.proofs.Common.{◌≡◌, ℕ, suc, ◌+◌, ◌<◌, ◌≤◌, true, false, not, ◌⊎◌, List, ◌∷◌, ◌++◌, length, get_or, take, drop, set, Some, None, MatchBool, Option, sym, ap, ◌∙◌, subst, subst₂, inl, inr, arith}
+use Rattle.std.proofs.Common.{◌≡◌, ℕ, suc, ◌+◌, ◌<◌, ◌≤◌, true, false, not, ◌⊎◌, List, ◌∷◌, ◌++◌, length, get_or, take, drop, set, Some, None, Option, sym, ap, ◌∙◌, subst, subst₂, inl, inr, arith}
 use lib.ListN.{get_or-eq_default}
 use lib.Seq.{set_split, split_at}
 use Rattle.std.proofs.lemmas.Bool.{cases_eq, cases_lt, cases_order, not-true}
-use Rattle.std.proofs.lemmas.Bool.Decides.{when_true, when_false}
+use Rattle.std.specs.Prelude.{◌↔◌, IsTrue}
+use Rattle.std.proofs.lemmas.Bool.Decides.{not_from_Decides}
 use Rattle.loads.specs.Counts.{Counted}
 use Rattle.loads.specs.Kinds.{by_rank}
 use Rattle.loads.specs.Loads.{count, NotHeavier}
@@ -12,7 +13,7 @@ use Rattle.loads.proofs.Weights.{count_insert}
 use Rattle.marking.specs.declared.marks.Marks.{Marks}
 use Rattle.marking.specs.declared.counts.Counts.{Counts}
 use Rattle.marking.specs.Marks.{on_left, on_right, AlphaIs, BetaIs, GammaSays, SigmaSays}
-use Rattle.marking.specs.Bounds.{Iff, Loaded, IsFloor, FewerAtAlpha}
+use Rattle.marking.specs.Bounds.{Loaded, IsFloor, FewerAtAlpha}
 use Rattle.marking.proofs.Comparing.{AtMost, one, Shifted, Moved, Alpha, Beta, NoBeta, Gamma, Sigma}
 use Rattle.marking.proofs.Shifts.{at_alpha_spare, at_alpha_no_beta, at_alpha_over_beta, at_alpha_no_gamma, at_alpha_under_beta, at_beta_short, at_beta_sigma, at_beta_no_sigma}
 
@@ -69,7 +70,7 @@ module _ (ox oy : ℕ → ℕ) (px : (h : ℕ) → 48 ≤ h → ox h ≡ 0) (py 
 
   -- what is shown of every change by one at α is a floor
   abbrev pub Decides : ℕ → ℕ → Type 0
-  Decides α fl = (f g : ℕ → ℕ) (t : ℕ) → t < α → Shifted ox oy f g t α → Iff (fl ≤ t) (AtMost f g)
+  Decides α fl = (f g : ℕ → ℕ) (t : ℕ) → t < α → Shifted ox oy f g t α → (fl ≤ t) ↔ AtMost f g
 
   pub floor_is : (α fl : ℕ) → Decides α fl → IsFloor ox oy α fl
   floor_is α fl d = record {
@@ -148,13 +149,11 @@ module _ (counts : Counts) (m : Marks) (α : ℕ) (known : FewerAtAlpha (on_left
     beta_there : Beta (on_left counts) (on_right counts) α β
     beta_there = beta_here (Some β) e
 
-    gamma_there : MatchBool m.gamma (Gamma (on_left counts) (on_right counts) α β) (Gamma (on_left counts) (on_right counts) α β → ⊥)
-    gamma_there =
-        subst₂ (λ (a b : Option ℕ). MatchBool m.gamma (GammaSays (on_left counts) (on_right counts) a b) (GammaSays (on_left counts) (on_right counts) a b → ⊥)) known.at e known.marked.gamma_is
+    gamma_there : IsTrue m.gamma ↔ Gamma (on_left counts) (on_right counts) α β
+    gamma_there = subst₂ (λ (a b : Option ℕ). IsTrue m.gamma ↔ GammaSays (on_left counts) (on_right counts) a b) known.at e known.marked.gamma_is
 
-    sigma_there : MatchBool m.sigma (Sigma (on_left counts) (on_right counts) β) (Sigma (on_left counts) (on_right counts) β → ⊥)
-    sigma_there =
-        subst (λ (o : Option ℕ). MatchBool m.sigma (SigmaSays (on_left counts) (on_right counts) o) (SigmaSays (on_left counts) (on_right counts) o → ⊥)) e known.marked.sigma_is
+    sigma_there : IsTrue m.sigma ↔ Sigma (on_left counts) (on_right counts) β
+    sigma_there = subst (λ (o : Option ℕ). IsTrue m.sigma ↔ SigmaSays (on_left counts) (on_right counts) o) e known.marked.sigma_is
 
     beta_more : on_right counts β < on_left counts β
     beta_more = beta_there.1
@@ -164,14 +163,14 @@ module _ (counts : Counts) (m : Marks) (α : ℕ) (known : FewerAtAlpha (on_left
       where
         go : (on_left counts α + 1 < on_right counts α) ⊎ (on_right counts α ≤ on_left counts α + 1) → IsFloor (on_left counts) (on_right counts) α 0
         go (inl x) = spare x
-        go (inr x) = floor_no_gamma (on_left counts) (on_right counts) none_left none_right α alpha_here (omega (arith, known.fewer, x)) β beta_there (when_false (Gamma (on_left counts) (on_right counts) α β) _ (not-true m.gamma g) gamma_there)
+        go (inr x) = floor_no_gamma (on_left counts) (on_right counts) none_left none_right α alpha_here (omega (arith, known.fewer, x)) β beta_there (not_from_Decides m.gamma gamma_there (not-true m.gamma g))
 
     module _ (g : m.gamma ≡ true) (x : on_right counts α ≤ on_left counts α + 1) where
       one_less : on_left counts α + 1 ≡ on_right counts α
       one_less = omega (arith, known.fewer, x)
 
       gamma_holds : Gamma (on_left counts) (on_right counts) α β
-      gamma_holds = when_true (Gamma (on_left counts) (on_right counts) α β) _ g gamma_there
+      gamma_holds = gamma_there.0 g
 
       pub short : on_right counts β + 1 < on_left counts β → IsFloor (on_left counts) (on_right counts) α (β + 1)
       short y = floor_short (on_left counts) (on_right counts) none_left none_right α alpha_here one_less β beta_there gamma_holds y
@@ -181,10 +180,10 @@ module _ (counts : Counts) (m : Marks) (α : ℕ) (known : FewerAtAlpha (on_left
         where
           go : (on_right counts β + 1 < on_left counts β) ⊎ (on_left counts β ≤ on_right counts β + 1) → IsFloor (on_left counts) (on_right counts) α (β + 1)
           go (inl y) = short y
-          go (inr y) = floor_sigma (on_left counts) (on_right counts) none_left none_right α alpha_here one_less β beta_there gamma_holds (omega (arith, y, beta_more)) (when_true (Sigma (on_left counts) (on_right counts) β) _ s sigma_there)
+          go (inr y) = floor_sigma (on_left counts) (on_right counts) none_left none_right α alpha_here one_less β beta_there gamma_holds (omega (arith, y, beta_more)) (sigma_there.0 s)
 
       pub without_sigma : on_left counts β ≤ on_right counts β + 1 → m.sigma ≡ false → IsFloor (on_left counts) (on_right counts) α β
-      without_sigma y s = floor_beta (on_left counts) (on_right counts) none_left none_right α alpha_here one_less β beta_there gamma_holds (omega (arith, y, beta_more)) (when_false (Sigma (on_left counts) (on_right counts) β) _ s sigma_there)
+      without_sigma y s = floor_beta (on_left counts) (on_right counts) none_left none_right α alpha_here one_less β beta_there gamma_holds (omega (arith, y, beta_more)) (not_from_Decides m.sigma sigma_there s)
 
 -- which floor it is, by the marks
 pub ruleset floors = (no_beta, short, with_sigma, without_sigma)

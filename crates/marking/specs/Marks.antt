@@ -1,5 +1,5 @@
 -- The marks of two counts: ox says how often each rank occurs on the left, oy on the right.
-use Rattle.std.specs.Prelude.{◌≡◌, ℕ, ◌<◌, ◌≤◌, List, Some, None, MatchBool, Option, ◌≢◌, slice_index}
+use Rattle.std.specs.Prelude.{◌≡◌, ℕ, ◌<◌, ◌≤◌, List, Some, None, IsTrue, ◌↔◌, Option, ◌≢◌, slice_index}
 use Rattle.marking.specs.declared.counts.Counts.{Counts}
 use Rattle.marking.specs.declared.marks.Marks.{Marks}
 
@@ -44,8 +44,8 @@ SigmaSays ox oy (Some β) = (s : ℕ) × (s < β) × (oy s < ox s) × Between ox
 pub record Marked (ox oy : ℕ → ℕ) (m : Marks) : Type 0 where
   pub alpha_is : AlphaIs ox oy m.alpha
   pub beta_is : BetaIs ox oy m.alpha m.beta
-  pub gamma_is : MatchBool m.gamma (GammaSays ox oy m.alpha m.beta) (GammaSays ox oy m.alpha m.beta → ⊥)
-  pub sigma_is : MatchBool m.sigma (SigmaSays ox oy m.beta) (SigmaSays ox oy m.beta → ⊥)
+  pub gamma_is : IsTrue m.gamma ↔ GammaSays ox oy m.alpha m.beta
+  pub sigma_is : IsTrue m.sigma ↔ SigmaSays ox oy m.beta
 
 -- and no other marks are theirs
 pub record OnlyMarks (ox oy : ℕ → ℕ) (m : Marks) : Type 0 where

@@ -1,5 +1,5 @@
 // The marks of two counts, found from the highest rank down.
-ghost use Rattle.std.specs.Prelude.{◌≡◌, ℕ, ◌<◌, ◌≤◌, IfSome, Some, MatchBool};
+ghost use Rattle.std.specs.Prelude.{◌≡◌, ℕ, ◌<◌, ◌≤◌, IfSome, Some, IsTrue, ◌↔◌};
 ghost use Rattle.marking.specs.Marks.{occurs, on_left, on_right, AlphaIs, BetaIs, Between, SigmaSays, Marked, OnlyMarks};
 
 use crate::counts::{Counts, RANKS};
@@ -31,7 +31,7 @@ impl Counts<'_> {
     // Whether the counts agree at every rank strictly between two.
     fn agree_between(&self, low: usize, high: usize) -> bool
         requires { (low < high) × (high ≤ 48) }
-        ensures { MatchBool result (Between (on_left self.now) (on_right self.now) low high) (Between (on_left self.now) (on_right self.now) low high → ⊥) }
+        ensures { IsTrue result ↔ Between (on_left self.now) (on_right self.now) low high }
     {
         (low + 1..high).all(|rank| self.left[rank] == self.right[rank])
     }
@@ -39,7 +39,7 @@ impl Counts<'_> {
     // Whether of the ranks below a bound the left has more at the highest whose counts differ.
     fn is_heavier_below(&self, bound: usize) -> bool
         requires { bound ≤ 48 }
-        ensures { MatchBool result (SigmaSays (on_left self.now) (on_right self.now) (Some bound)) (SigmaSays (on_left self.now) (on_right self.now) (Some bound) → ⊥) }
+        ensures { IsTrue result ↔ SigmaSays (on_left self.now) (on_right self.now) (Some bound) }
     {
         let Counts { left, right } = *self;
         let weight = weigh_counts(&left[..bound], &right[..bound]);

@@ -1,5 +1,5 @@
 // The rows of a rule, checked: a rule names 1 to 16 cells a row, all below n, none twice.
-ghost use Rattle.std.specs.Prelude.{◌≡◌, ◌<◌, length, MatchBool, MatchResult, slice_index};
+ghost use Rattle.std.specs.Prelude.{◌≡◌, ◌<◌, ◌↔◌, length, IsTrue, MatchBool, MatchResult, slice_index};
 ghost use Rattle.rules.specs.Rows.{RowSized, Below, Past, Repeat, Apart, Fit, Unfit, cells};
 
 use crate::faults::RowFault;
@@ -8,7 +8,7 @@ use crate::faults::RowFault;
 pub const LONGEST_ROW: usize = 16;
 
 fn is_sized(row: &[u8]) -> bool
-    ensures { MatchBool result (RowSized row.now) (RowSized row.now → ⊥) }
+    ensures { IsTrue result ↔ RowSized row.now }
 {
     (1..=LONGEST_ROW).contains(&row.len())
 }
