@@ -8,7 +8,7 @@ use Rattle.loads.specs.declared.weighing.Weight.{Weight}
 use Rattle.loads.specs.Grades.{Order}
 use Rattle.loads.specs.Loads.{count, Lighter, Weighed}
 use Rattle.loads.specs.Recursive.{maximum, without, by_maxima, weighed_in, weighed}
-use Rattle.loads.proofs.Counting.{one, by_standing_lem, is_lower_lem, is_same_lem, below_higher, one_here, one_higher, one_apart}
+use Rattle.loads.proofs.Counting.{one, by_ordering, is_less, is_equal, below_higher, one_here, one_higher, one_apart}
 use Rattle.loads.proofs.Descent.{by_test}
 use Rattle.loads.proofs.Weights.{more_weighed, one_answer}
 
@@ -20,7 +20,7 @@ module _ {G : Type 0} (cmp : G → G → Ordering) (o : Order cmp) where
   top_more : (x m : G) (ys : List G) → Top cmp m ys → Top cmp (cond (is_lt (cmp m x)) x m) (x ∷ ys)
   top_more x m ys t =
       cond_both (is_lt (cmp m x)) x m (λ k. Top cmp k (x ∷ ys))
-      (λ b. let l : cmp m x ≡ Less = is_lower_lem (cmp m x) b in
+      (λ b. let l : cmp m x ≡ Less = is_less (cmp m x) b in
       (omega (arith, one_here cmp o x), λ h u. omega (arith, one_higher cmp o x h u, t.1 h (o.lower m x h l u))))
       (λ b. (
         omega (arith, t.0),
@@ -36,7 +36,7 @@ module _ {G : Type 0} (cmp : G → G → Ordering) (o : Order cmp) where
   dropped m [] some h = absurd (omega arith)
   dropped m (x ∷ xs) some h =
       by_test (is_eq (cmp m x))
-      (λ b. let same : m ≡ x = o.equal m x (is_same_lem (cmp m x) b) in
+      (λ b. let same : m ≡ x = o.equal m x (is_equal (cmp m x) b) in
       rw b (omega (arith, ap (λ (y : G). one (cmp h y)) same)))
       (λ b. let left : 0 < count cmp m xs = omega (arith, ap {B = ℕ} (λ (t : Bool). cond t 1 0) b) in
       rw b (omega (arith, dropped m xs left h)))
@@ -56,7 +56,7 @@ module _ {G : Type 0} (cmp : G → G → Ordering) (o : Order cmp) where
 
   settles : (m k : G) (xs ys : List G) (w : Weight) → Top cmp m xs → Top cmp k ys → Weighed cmp w (without cmp m xs) (without cmp k ys) → Weighed cmp (by_maxima (cmp m k) w) xs ys
   settles m k xs ys w s t rest =
-      by_standing_lem (cmp m k)
+      by_ordering (cmp m k)
       (λ l. rw l (lower_top m k xs ys s t l))
       (λ e. let same : k ≡ m = sym (o.equal m k e) in
       rw e (more_weighed cmp (λ h. one (cmp h m)) (without cmp m xs) (without cmp k ys) xs ys (dropped m xs s.0)

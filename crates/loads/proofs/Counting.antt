@@ -1,27 +1,26 @@
 -- Counts of a load, and what the laws of an order give of them.
-use Rattle.std.proofs.Common.{◌≡◌, ℕ, ◌+◌, ◌<◌, ◌≤◌, true, cond, List, [], ◌∷◌, ◌++◌, length, get_or, take, sym, refl, ap, ◌∙◌, arith}
-use Rattle.std.proofs.lemmas.List.{take_more}
+use Rattle.std.proofs.Common.{◌≡◌, ℕ, ◌+◌, ◌≤◌, true, cond, List, [], ◌∷◌, ◌++◌, length, refl, ap, ◌∙◌, arith}
 use Rattle.std.specs.declared.cmp.Ordering.{Ordering}
 use Rattle.std.specs.declared.cmp.Ordering.TheVariants.{Less, Equal as Same, Greater}
+use Rattle.std.proofs.lemmas.Bool.{false≢true}
+use Rattle.std.specs.Cmp.{Equal-is}
 use Rattle.std.specs.Ordering.{is_lt, is_eq, ordering_reverse}
 use Rattle.loads.specs.Grades.{Order}
 use Rattle.loads.specs.Loads.{count}
 
 -- cases on a standing, with its equation
-pub by_standing_lem : {R : Type 0} (s : Ordering) → (s ≡ Less → R) → (s ≡ Same → R) → (s ≡ Greater → R) → R
-by_standing_lem Less l e h = l refl
-by_standing_lem Same l e h = e refl
-by_standing_lem Greater l e h = h refl
+pub by_ordering : {R : Type 0} (s : Ordering) → (s ≡ Less → R) → (s ≡ Same → R) → (s ≡ Greater → R) → R
+by_ordering Less l e h = l refl
+by_ordering Same l e h = e refl
+by_ordering Greater l e h = h refl
 
-pub is_lower_lem : (s : Ordering) → is_lt s ≡ true → s ≡ Less
-is_lower_lem Less e = refl
-is_lower_lem Same e = let z : ◌≡◌ {A = ℕ} 0 1 = cc in absurd (omega arith)
-is_lower_lem Greater e = let z : ◌≡◌ {A = ℕ} 0 1 = cc in absurd (omega arith)
+pub is_less : (s : Ordering) → is_lt s ≡ true → s ≡ Less
+is_less Less e = refl
+is_less Same e = absurd (false≢true e)
+is_less Greater e = absurd (false≢true e)
 
-pub is_same_lem : (s : Ordering) → is_eq s ≡ true → s ≡ Same
-is_same_lem Less e = let z : ◌≡◌ {A = ℕ} 0 1 = cc in absurd (omega arith)
-is_same_lem Same e = refl
-is_same_lem Greater e = let z : ◌≡◌ {A = ℕ} 0 1 = cc in absurd (omega arith)
+pub is_equal : (s : Ordering) → is_eq s ≡ true → s ≡ Same
+is_equal s e = (Equal-is s).0 e
 
 -- what a member adds to the count of a grade
 abbrev pub one : Ordering → ℕ
@@ -43,11 +42,6 @@ pub count_le_length : {G : Type 0} (cmp : G → G → Ordering) (g : G) (xs : Li
 count_le_length cmp g [] = omega arith
 count_le_length cmp g (x ∷ xs) = omega (arith, one_le (cmp g x), count_le_length cmp g xs)
 
--- one member more of xs
-pub count_more : {G : Type 0} (cmp : G → G → Ordering) (g : G) (xs : List G) (i : ℕ) (x : G) → i < length xs → x ≡ get_or xs i x → count cmp g (take (i + 1) xs) ≡ count cmp g (take i xs) + one (cmp g x)
-count_more cmp g xs i x within read =
-    ap (count cmp g) (take_more xs i x within) ∙ count_push cmp g (take i xs) (get_or xs i x) ∙ ap (λ y. count cmp g (take i xs) + one (cmp g y)) (sym read)
-
 module _ {G : Type 0} (cmp : G → G → Ordering) (o : Order cmp) where
   pub above_lower : (x y : G) → cmp x y ≡ Less → cmp y x ≡ Greater
   above_lower x y e = o.exchange x y ∙ ap ordering_reverse e
@@ -59,12 +53,9 @@ module _ {G : Type 0} (cmp : G → G → Ordering) (o : Order cmp) where
   one_here x = ap one (o.same x)
 
   -- a higher grade and a lower one are not the same
-  pub one_lower : (x y : G) → cmp x y ≡ Less → one (cmp x y) ≡ 0
-  one_lower x y e = ap one e
-
   pub one_higher : (x y : G) → cmp x y ≡ Less → one (cmp y x) ≡ 0
   one_higher x y e = ap one (above_lower x y e)
 
   -- a grade of which P holds is not the same as one of which it does not
   pub one_apart : (x y : G) → (x ≡ y → ⊥) → one (cmp x y) ≡ 0
-  one_apart x y n = by_standing_lem (cmp x y) (λ e. ap one e) (λ e. absurd (n (o.equal x y e))) (λ e. ap one e)
+  one_apart x y n = by_ordering (cmp x y) (λ e. ap one e) (λ e. absurd (n (o.equal x y e))) (λ e. ap one e)

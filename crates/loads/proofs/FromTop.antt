@@ -6,22 +6,18 @@ use Rattle.std.proofs.lemmas.Bool.Decides.{nat_tests}
 use Rattle.std.specs.declared.cmp.Ordering.TheVariants.{Less}
 use Rattle.loads.specs.declared.weighing.Weight.{Weight}
 use Rattle.loads.specs.declared.weighing.Weight.TheVariants.{Lighter as lighter, Equal as equal, Heavier as heavier}
-use Rattle.loads.specs.Grades.{Order}
+use Rattle.loads.specs.Grades.{Order, order_of}
 use Rattle.loads.specs.Kinds.{by_rank}
 use Rattle.loads.specs.Loads.{count, Weighed}
 use Rattle.loads.specs.Laws.{as_weight}
 use Rattle.loads.specs.Counts.{by_counts, AgreeFrom, Deciding, ByCounts}
+use Rattle.std.specs.Cmp.{nat_cmp_total}
 use Rattle.std.specs.Ordering.{nat_cmp}
 use Rattle.loads.proofs.Counting.{one_apart}
 
 -- ranks are a kind in total order
 pub rank_order : Order by_rank
-rank_order = record {
-  same = λ a. grind (arith, nat_tests);
-  equal = λ a b e. grind (arith, nat_tests);
-  exchange = λ a b. grind (arith, nat_tests);
-  lower = λ a b c p q. grind (arith, nat_tests);
-}
+rank_order = order_of nat_cmp_total (λ a b e. grind (arith, nat_tests))
 
 pub rank_lower : (a b : ℕ) → by_rank a b ≡ Less → a < b
 rank_lower a b e = grind (arith, nat_tests)

@@ -13,7 +13,7 @@ use Rattle.loads.specs.Grades.{Order}
 use Rattle.loads.specs.Loads.{count, NotHeavier, Weighed}
 use Rattle.loads.specs.Laws.{Weighs, is_not_heavier, as_weight, Replaced}
 use Rattle.loads.specs.Weighing.{DecidedAt}
-use Rattle.loads.proofs.Counting.{one, by_standing_lem, below_higher}
+use Rattle.loads.proofs.Counting.{one, by_ordering, below_higher}
 use Rattle.loads.proofs.Weights.{more_weighed, one_answer, not_both, not_each, trans, added, lowered}
 use Rattle.loads.proofs.Agreement.{weighed_only}
 
@@ -25,14 +25,14 @@ count_is_sum cmp g (x ∷ xs) = omega (arith, sum_by-cons (λ y. one (cmp g y)) 
 pub count_shuffled : {G : Type 0} (cmp : G → G → Ordering) (g : G) (xs us : List G) → IsPermutation xs us → count cmp g us ≡ count cmp g xs + 0
 count_shuffled cmp g xs us s = omega (arith, count_is_sum cmp g xs, count_is_sum cmp g us, sum_by-IsPermutation (λ x. one (cmp g x)) xs us s)
 
-module _ {G : Type 0} (cmp : G → G → Ordering) (o : Order cmp) where
+module _ {G : Type 0} {cmp : G → G → Ordering} (o : Order cmp) where
   not_heavier_when : (xs ys : List G) (w : Weight) → Weighed cmp w xs ys → MatchBool (is_not_heavier w) (NotHeavier cmp xs ys) (NotHeavier cmp xs ys → ⊥)
   not_heavier_when xs ys lighter h = inl h
   not_heavier_when xs ys equal h = inr h
   not_heavier_when xs ys heavier h = ⊎_elim (λ l. not_each cmp o xs ys l h) (λ e. not_both cmp o ys xs h (λ g. sym (e g)))
 
-  pub weighs : (xs ys : List G) (w : Weight) → Weighed cmp w xs ys → Weighs cmp xs ys w
-  weighs xs ys w h = record {
+  pub weighs : {xs ys : List G} {w : Weight} → Weighed cmp w xs ys → Weighs cmp xs ys w
+  weighs {xs} {ys} {w} h = record {
     holds = h;
     alone = λ v k. one_answer cmp o xs ys v w k h;
     not_heavier = not_heavier_when xs ys w h;
@@ -44,13 +44,13 @@ module _ {G : Type 0} (cmp : G → G → Ordering) (o : Order cmp) where
 
   by_grades : (new old : G) (us vs : List G) → Weighed cmp (as_weight (cmp new old)) (us ++ (new ∷ vs)) (us ++ (old ∷ vs))
   by_grades new old us vs =
-      by_standing_lem (cmp new old)
+      by_ordering (cmp new old)
       (λ l. rw l (lowered cmp o new old us vs l))
       (λ s. rw s (λ g. ap (λ (z : G). count cmp g (us ++ (z ∷ vs))) (o.equal new old s)))
       (λ u. rw u (lowered cmp o old new us vs (below_higher cmp o new old u)))
 
-  pub replaced : (new old : G) (w : Weight) → w ≡ as_weight (cmp new old) → Replaced cmp new old w
-  replaced new old w e = record { by_grades = e; load = λ xs i within is. subst (λ (v : Weight). Weighed cmp v (set xs i new) xs) (sym e) (at xs i within is) }
+  pub replaced : {new old : G} {w : Weight} → w ≡ as_weight (cmp new old) → Replaced cmp new old w
+  replaced {new} {old} e = record { by_grades = e; load = λ xs i within is. subst (λ (v : Weight). Weighed cmp v (set xs i new) xs) (sym e) (at xs i within is) }
     where
       at : (xs : List G) (i : ℕ) → i < length xs → old ≡ get_or xs i old → Weighed cmp (as_weight (cmp new old)) (set xs i new) xs
       at xs i within is =
@@ -60,12 +60,12 @@ module _ {G : Type 0} (cmp : G → G → Ordering) (o : Order cmp) where
           (by_grades new old (take i xs) (drop (suc i) xs)))
 
   -- what the walk found tells the answer: the load that holds fewer of the deciding grade is the lighter
-  decided_weighed : (xs ys : List G) (g : G) (m n : ℕ) → DecidedAt cmp xs ys g m n → Weighed cmp (as_weight (nat_cmp m n)) xs ys
-  decided_weighed xs ys g m n d =
+  decided_weighed : {xs ys : List G} {g : G} {m n : ℕ} → DecidedAt cmp xs ys g m n → Weighed cmp (as_weight (nat_cmp m n)) xs ys
+  decided_weighed {xs} {ys} {g} {m} {n} d =
       by_ranked (m < n) (m ≡ n) (n < m) (nat_cmp m n) (ranked m n (nat_cmp m n) refl)
       (λ e l. rw e (g, omega (arith, l, d.left_is, d.right_is), d.agree))
       (λ e s. absurd (d.differ s))
       (λ e l. rw e (g, omega (arith, l, d.left_is, d.right_is), λ h u. sym (d.agree h u)))
 
-  pub decided_weighs : (xs ys : List G) (g : G) (m n : ℕ) (w : Weight) → DecidedAt cmp xs ys g m n → w ≡ as_weight (nat_cmp m n) → Weighs cmp xs ys w
-  decided_weighs xs ys g m n w d e = weighs xs ys w (subst (λ (v : Weight). Weighed cmp v xs ys) (sym e) (decided_weighed xs ys g m n d))
+  pub decided_weighs : {xs ys : List G} {g : G} {m n : ℕ} {w : Weight} → DecidedAt cmp xs ys g m n → w ≡ as_weight (nat_cmp m n) → Weighs cmp xs ys w
+  decided_weighs {xs} {ys} d e = weighs (subst (λ (v : Weight). Weighed cmp v xs ys) (sym e) (decided_weighed d))

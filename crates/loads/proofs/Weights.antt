@@ -8,7 +8,7 @@ use Rattle.loads.specs.declared.weighing.Weight.TheVariants.{Lighter as lighter,
 use Rattle.loads.specs.Grades.{Order}
 use Rattle.loads.specs.Loads.{count, Lighter, Equal, NotHeavier, Weighed}
 use Rattle.loads.specs.Laws.{NoneHigher}
-use Rattle.loads.proofs.Counting.{one, by_standing_lem, count_append, below_higher, one_here, one_higher}
+use Rattle.loads.proofs.Counting.{one, by_ordering, count_append, below_higher, one_here, one_higher}
 
 -- what a member adds, wherever it stands
 pub count_insert : {G : Type 0} (cmp : G → G → Ordering) (g x : G) (us vs : List G) → count cmp g (us ++ (x ∷ vs)) ≡ count cmp g (us ++ vs) + one (cmp g x)
@@ -39,7 +39,7 @@ module _ {G : Type 0} (cmp : G → G → Ordering) (o : Order cmp) where
 
   pub not_each : (xs ys : List G) → Lighter cmp xs ys → Lighter cmp ys xs → ⊥
   not_each xs ys l k =
-      by_standing_lem (cmp l.0 k.0)
+      by_ordering (cmp l.0 k.0)
       (λ u. omega (arith, l.2 k.0 u, k.1))
       (λ e. let more : count cmp l.0 ys < count cmp l.0 xs = subst (λ (g : G). count cmp g ys < count cmp g xs) (sym (o.equal l.0 k.0 e)) k.1 in
       omega (arith, l.1, more))
@@ -47,7 +47,7 @@ module _ {G : Type 0} (cmp : G → G → Ordering) (o : Order cmp) where
 
   pub trans : (xs ys zs : List G) → Lighter cmp xs ys → Lighter cmp ys zs → Lighter cmp xs zs
   trans xs ys zs l k =
-      by_standing_lem (cmp l.0 k.0)
+      by_ordering (cmp l.0 k.0)
       (λ u. (k.0, omega (arith, l.2 k.0 u, k.1), λ h v. l.2 h (o.lower l.0 k.0 h u v) ∙ k.2 h v))
       (λ e. let same : l.0 ≡ k.0 = o.equal l.0 k.0 e in
       let less : count cmp l.0 ys < count cmp l.0 zs = subst (λ (g : G). count cmp g ys < count cmp g zs) (sym same) k.1 in
@@ -111,7 +111,7 @@ module _ {G : Type 0} (cmp : G → G → Ordering) (o : Order cmp) where
   -- one member replaced by one that is not higher
   pub no_higher : (x y : G) (us vs : List G) → (cmp x y ≡ Greater → ⊥) → NotHeavier cmp (us ++ (x ∷ vs)) (us ++ (y ∷ vs))
   no_higher x y us vs n =
-      by_standing_lem (cmp x y)
+      by_ordering (cmp x y)
       (λ l. inl (lowered x y us vs l))
       (λ e. inr (λ h. ap (λ (z : G). count cmp h (us ++ (z ∷ vs))) (o.equal x y e)))
       (λ u. absurd (n u))

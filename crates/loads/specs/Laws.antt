@@ -28,7 +28,7 @@ pub record Weighs {G : Type 0} (cmp : G → G → Ordering) (xs ys : List G) (w 
   -- the same member more in both loads, wherever it stands, changes nothing
   pub added : (x : G) (us vs ss ts : List G) → xs ≡ us ++ vs → ys ≡ ss ++ ts → Weighed cmp w (us ++ (x ∷ vs)) (ss ++ (x ∷ ts))
 
--- what a load is against what it was, where the new member stands so to the one it replaced
+-- the weight that an ordering gives: how the numbers of the deciding grade stand, or a new member to the one it replaced
 abbrev pub as_weight : Ordering → Weight
 as_weight Less = lighter
 as_weight Same = equal

@@ -16,6 +16,7 @@ pub struct Points {
     pub score: i32,
 }
 
+// The derived order is `by_points`: that is what `points_order` is proved of.
 impl Grade for Points {
     ghost order = { points_order };
 }

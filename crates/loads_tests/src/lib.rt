@@ -6,6 +6,7 @@ mod tests {
     use loads::kinds::{Hand, Points};
     use loads::rank_counts::weigh_counts;
     use loads::weighing::{Weight, compare_loads, exchange, not_heavier, weigh};
+    use std::cmp::Ordering;
     use std::process::Abort;
     use std::test::Fail;
 
@@ -98,6 +99,16 @@ mod tests {
         assert_eq!(rt; load[1].score, 7);
         assert!(rt; exchange(&mut load, 2, points(0)).is_err());
         Ok(())
+    }
+
+    #[test]
+    fn orders_of_grades(rt: HostRuntime) {
+        assert_eq!(rt; points(-3).cmp(&points(7)), Ordering::Less);
+        assert_eq!(rt; hand(3, 1800).cmp(&hand(3, 1799)), Ordering::Less);
+        assert_eq!(rt; hand(4, 1799).cmp(&hand(3, 1800)), Ordering::Greater);
+        assert_eq!(rt; Weight::from(Ordering::Less), Weight::Lighter);
+        assert_eq!(rt; Weight::from(Ordering::Equal), Weight::Equal);
+        assert_eq!(rt; Weight::from(Ordering::Greater), Weight::Heavier);
     }
 
     #[test]
