@@ -1,4 +1,5 @@
-// The four marks, each by itself as it is defined: nested Options would say no more, and less plainly. Ranks are counted from 0.
+// The four marks. Ranks are counted from 0. Each stands by itself, as it is defined: that gamma and sigma are false without a beta
+// could be said by nested Options, but no caller would read that with more ease.
 #[derive(Clone, Copy, Default, PartialEq, Eq, Debug)]
 pub struct Marks {
     // the highest rank whose counts differ
