@@ -1,5 +1,5 @@
 // The rows of a rule, checked: a rule names 1 to 16 cells a row, all below n, none twice.
-ghost use Rattle.std.specs.Prelude.{◌≡◌, ◌<◌, ◌↔◌, length, IsTrue, MatchBool, MatchResult, slice_index};
+ghost use Rattle.std.specs.Prelude.{◌≡◌, ◌<◌, ◌≤◌, ◌↔◌, length, IsTrue, MatchBool, MatchResult, slice_index};
 ghost use Rattle.rules.specs.Rows.{RowSized, Below, Past, Repeat, Apart, Fit, Unfit, cells};
 
 use crate::faults::RowFault;
@@ -44,7 +44,7 @@ impl Rows<'_> {
 
     // Whether two places hold the same cell: by loops over the places, which the project's plan wants left by their label.
     fn has_repeat(&self) -> bool
-        requires { RowSized self.now.left.now × RowSized self.now.right.now }
+        requires { (length self.now.left.now ≤ 16) × (length self.now.right.now ≤ 16) }
         ensures { MatchBool result (Repeat (cells self.now)) (Apart (cells self.now)) }
     {
         let count = self.left.len() + self.right.len();
