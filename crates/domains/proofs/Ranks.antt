@@ -1,140 +1,65 @@
 -- The laws of `In`, all of them.
-use Rattle.std.proofs.Common.{◌≡◌, ℕ, zero, suc, ◌+◌, ◌-◌, ◌*◌, ◌/◌, ◌%◌, ◌^◌, ◌<◌, ◌≤◌, ◌⊎◌, sym, refl, ap, ◌∙◌, subst, inl, inr, mod-lt, mul_assoc, pow-suc, div-mul-le_self, add-one, one-add, arith, pow_pos, pow_mono, pow-add, shr-shr, shr_lt}
-use native.Mathlib.Nat.{div-eq_of_lt, div-eq_of_lt-le, mul-mod_left}
-use lib.Bits.{bit_and, and_shr, and_step}
-use lib.Count.{ones, ones_step, ones-le, count_trailing_zeros, under}
-use lib.Pow.{shl-shr, field, mod-mod-pow, high, low, ones_split, ones_lt}
+use Rattle.std.proofs.Common.{◌≡◌, ℕ, zero, suc, ◌+◌, ◌-◌, ◌*◌, ◌/◌, ◌%◌, ◌^◌, ◌<◌, ◌≤◌, ◌⊎◌, sym, refl, ap, ◌∙◌, subst, inl, inr, mod-lt, div-add-mod', div-mul-le_self, add-one, one-add, arith, pow_pos, pow_mono, shr-shr, shr_lt}
+use lib.Bits.{bit_and}
+use lib.Count.{ones, ones_step, ones-le}
+use lib.Pow.{ones_lt}
 use Rattle.std.proofs.lemmas.Bool.{cases_lt, cases_order}
+use Rattle.std.proofs.lemmas.Nat.Bits.{bit_at-zero, bit_at_and, bit_at_ones, bit_at-lt, same_from_bits_below, bit_at_above, bit_at_cat_low, bit_at_cat_high}
 use Rattle.domains.specs.Sets.{In, up_to, from, run, Gapless, size_below}
-
--- a digit of the half is the next digit of the number
-pub half_div : (m r : ℕ) → m / 2 / 2 ^ r ≡ m / 2 ^ suc r
-half_div m r = shr-shr m 1 r ∙ ap (λ k. m / 2 ^ k) (one-add r)
-
-pub in_half : (m r : ℕ) → In (m / 2) r → In m (suc r)
-in_half m r h = subst (λ (x : ℕ). x % 2 ≡ 1) (half_div m r) h
-
-pub half_in : (m r : ℕ) → In m (suc r) → In (m / 2) r
-half_in m r h = subst (λ (x : ℕ). x % 2 ≡ 1) (sym (half_div m r)) h
-
-div_one : (m : ℕ) → m / 2 ^ 0 ≡ m
-div_one m = omega arith
 
 -- nothing at or above the width
 pub none_above : (w m k : ℕ) → m < 2 ^ w → w ≤ k → In m k → ⊥
-none_above w m k h l i =
-    let p : 2 ^ w ≤ 2 ^ k = pow_mono l in
-    let q : m < 2 ^ k = omega arith in
-    let z : m / 2 ^ k ≡ 0 = div-eq_of_lt q in
-    omega (arith, i, z)
-
-half_below : (k n : ℕ) → n < 2 ^ suc k → n / 2 < 2 ^ k
-half_below k n h = shr_lt k 1 (subst (λ (x : ℕ). n < 2 ^ x) (sym (add-one k)) h)
-
-Lowest : ℕ → ℕ → Type 0
-Lowest n r = In n r × ((j : ℕ) → j < r → In n j → ⊥)
-
--- the count of the zeros below is the lowest rank
-pub lowest_is : (k n : ℕ) → 0 < n → n < 2 ^ k → In n (count_trailing_zeros k n) × ((j : ℕ) → j < count_trailing_zeros k n → In n j → ⊥)
-unfolding count_trailing_zeros
-lowest_is zero n p h = absurd (omega arith)
-lowest_is (suc k) n p h = go (n % 2) refl (λ q. lowest_is k (n / 2) q (half_below k n h))
-  where
-    go : (d : ℕ) → n % 2 ≡ d → (0 < n / 2 → In (n / 2) (count_trailing_zeros k (n / 2)) × ((j : ℕ) → j < count_trailing_zeros k (n / 2) → In (n / 2) j → ⊥))
-        → In n (under d (count_trailing_zeros k (n / 2))) × ((j : ℕ) → j < under d (count_trailing_zeros k (n / 2)) → In n j → ⊥)
-    go zero e rest =
-        let q : 0 < n / 2 = omega arith in
-        let ih = rest q in
-        (in_half n _ ih.0, λ j. below j ih)
-      where
-        below : (j : ℕ) → (In (n / 2) (count_trailing_zeros k (n / 2)) × ((j : ℕ) → j < count_trailing_zeros k (n / 2) → In (n / 2) j → ⊥)) → j < suc (count_trailing_zeros k (n / 2)) → In n j → ⊥
-        below zero ih l i = omega (arith, i)
-        below (suc j) ih l i = ih.1 j (omega arith) (half_in n j i)
-    go (suc d) e rest = (omega (arith, mod-lt n {m = 2} (omega arith)), λ j l i. omega arith)
-
--- the highest rank
-pub highest_is : (n j : ℕ) → 2 ^ j ≤ n → n < 2 ^ suc j → In n j × ((k : ℕ) → j < k → In n k → ⊥)
-highest_is n j l h =
-    let e : n / 2 ^ j ≡ 1 = div-eq_of_lt-le (2 ^ j) (omega arith) (omega (arith, pow-suc 2 j)) in
-    (omega (arith, e), λ k g i. none_above (suc j) n k h g i)
-
--- the parts
-pub in_upto : (m r k : ℕ) → (In (up_to m r) k → In m k × (k ≤ r)) × (In m k → k ≤ r → In (up_to m r) k)
-in_upto m r k = go (cases_lt r k)
-  where
-    same : (j : ℕ) → r + 1 ≡ (j + 1) + k → (m % 2 ^ (r + 1)) / 2 ^ k % 2 ≡ m / 2 ^ k % 2
-    same j e = ap (λ x. m % 2 ^ x / 2 ^ k % 2) e ∙ ap (λ x. x % 2) (field m (j + 1) k) ∙ mod-mod-pow (m / 2 ^ k) j 1
-
-    go : (r < k) ⊎ (k ≤ r) → (In (up_to m r) k → In m k × (k ≤ r)) × (In m k → k ≤ r → In (up_to m r) k)
-    go (inl l) = (
-      λ i. absurd (none_above (r + 1) (m % 2 ^ (r + 1)) k (mod-lt m (pow_pos (r + 1))) (omega arith) i),
-      λ _ g. absurd (omega arith),
-    )
-    go (inr l) =
-        let e = same (r - k) (omega arith) in
-        (λ i. (sym e ∙ i, l), λ i _. e ∙ i)
-
-pub in_from : (m r k : ℕ) → (In (from m r) k → In m k × (r ≤ k)) × (In m k → r ≤ k → In (from m r) k)
-in_from m r k = go (cases_lt k r)
-  where
-    same : (j : ℕ) → k ≡ r + j → (m / 2 ^ r * 2 ^ r) / 2 ^ k ≡ m / 2 ^ k
-    same j e =
-        ap (λ x. (m / 2 ^ r * 2 ^ r) / 2 ^ x) e ∙ sym (shr-shr (m / 2 ^ r * 2 ^ r) r j) ∙ ap (λ x. x / 2 ^ j) (shl-shr (m / 2 ^ r) r)
-        ∙ shr-shr m r j ∙ ap (λ x. m / 2 ^ x) (sym e)
-
-    gone : (j : ℕ) → r ≡ (j + 1) + k → (m / 2 ^ r * 2 ^ r) / 2 ^ k % 2 ≡ 0
-    gone j e =
-        let p : 2 ^ r ≡ 2 ^ j * 2 * 2 ^ k = ap (λ x. 2 ^ x) e ∙ pow-add 2 (j + 1) k ∙ ap (λ x. x * 2 ^ k) (pow-add 2 j 1) in
-        let q : m / 2 ^ r * 2 ^ r ≡ (m / 2 ^ r * 2 ^ j * 2) * 2 ^ k = ap (λ x. m / 2 ^ r * x) p ∙ sym (mul_assoc (m / 2 ^ r) (2 ^ j * 2) (2 ^ k)) ∙ ap (λ x. x * 2 ^ k) (sym (mul_assoc (m / 2 ^ r) (2 ^ j) 2)) in
-        ap (λ x. x / 2 ^ k % 2) q ∙ ap (λ x. x % 2) (shl-shr (m / 2 ^ r * 2 ^ j * 2) k) ∙ mul-mod_left (m / 2 ^ r * 2 ^ j) 2
-
-    go : (k < r) ⊎ (r ≤ k) → (In (from m r) k → In m k × (r ≤ k)) × (In m k → r ≤ k → In (from m r) k)
-    go (inl l) = (
-      λ i. absurd (omega (arith, i, gone (r - k - 1) (omega arith))),
-      λ _ g. absurd (omega arith),
-    )
-    go (inr l) =
-        let e = same (k - r) (omega arith) in
-        (λ i. (subst (λ (x : ℕ). x % 2 ≡ 1) e i, l), λ i _. subst (λ (x : ℕ). x % 2 ≡ 1) (sym e) i)
-
--- two numbers with the same ranks are equal
-pub same_set : (w m n : ℕ) → m < 2 ^ w → n < 2 ^ w → ((k : ℕ) → (In m k → In n k) × (In n k → In m k)) → m ≡ n
-same_set zero m n h l f = omega arith
-same_set (suc w) m n h l f =
-    let up : m / 2 ≡ n / 2 = same_set w (m / 2) (n / 2) (half_below w m h) (half_below w n l)
-    (λ k. (λ i. half_in n k ((f (suc k)).0 (in_half m k i)), λ i. half_in m k ((f (suc k)).1 (in_half n k i)))) in
-    let low : m % 2 ≡ n % 2 = go (m % 2) (n % 2) refl refl in
-    omega (arith, up, low)
-  where
-    go : (a b : ℕ) → m % 2 ≡ a → n % 2 ≡ b → a ≡ b
-    go zero zero p q = refl
-    go zero (suc b) p q =
-        let i : In n 0 = omega arith in
-        absurd (omega (arith, (f 0).1 i))
-    go (suc a) zero p q =
-        let i : In m 0 = omega arith in
-        absurd (omega (arith, (f 0).0 i))
-    go (suc a) (suc b) p q = omega arith
+none_above w m k h l i = omega (arith, i, bit_at_above m w k h l)
 
 pub in_below : (w m k : ℕ) → m < 2 ^ w → In m k → k < w
-in_below w m k h i = go (cases_lt k w)
-  where
-    go : (k < w) ⊎ (w ≤ k) → k < w
-    go (inl l) = l
-    go (inr l) = absurd (none_above w m k h l i)
+in_below w m k h i = elim (cases_lt k w) [ inl l ↦ l | inr l ↦ absurd (none_above w m k h l i) ]
 
 -- a part that is 0 has nothing in it
 pub none_in_zero : (k : ℕ) → In 0 k → ⊥
 none_in_zero k i = none_above 0 0 k (omega arith) (omega arith) i
 
+-- the parts
+pub in_upto : (m r k : ℕ) → (In (up_to m r) k → In m k × (k ≤ r)) × (In m k → k ≤ r → In (up_to m r) k)
+in_upto m r k = go (cases_lt r k)
+  where
+    same : k < r + 1 → m / 2 ^ k % 2 ≡ up_to m r / 2 ^ k % 2
+    same h = ap (λ x. x / 2 ^ k % 2) (sym (div-add-mod' m (2 ^ (r + 1)))) ∙ bit_at_cat_low (m / 2 ^ (r + 1)) (r + 1) (up_to m r) k h
+
+    go : (r < k) ⊎ (k ≤ r) → (In (up_to m r) k → In m k × (k ≤ r)) × (In m k → k ≤ r → In (up_to m r) k)
+    go (inl l) = (
+      λ i. absurd (none_above (r + 1) (up_to m r) k (mod-lt m (pow_pos (r + 1))) (omega arith) i),
+      λ _ g. absurd (omega arith),
+    )
+    go (inr l) = let e = same (omega arith) in (λ i. (e ∙ i, l), λ i _. sym e ∙ i)
+
+pub in_from : (m r k : ℕ) → (In (from m r) k → In m k × (r ≤ k)) × (In m k → r ≤ k → In (from m r) k)
+in_from m r k = go (cases_lt k r)
+  where
+    ends : from m r ≡ from m r + 0
+    ends = omega arith
+
+    gone : k < r → from m r / 2 ^ k % 2 ≡ 0
+    gone l = ap (λ x. x / 2 ^ k % 2) ends ∙ bit_at_cat_low (m / 2 ^ r) r 0 k l ∙ bit_at-zero k
+
+    same : (j : ℕ) → k ≡ r + j → r ≤ k → from m r / 2 ^ k % 2 ≡ m / 2 ^ k % 2
+    same j e l =
+        let d : k - r ≡ j = omega arith in
+        ap (λ x. x / 2 ^ k % 2) ends ∙ bit_at_cat_high (m / 2 ^ r) r 0 k (pow_pos r) l ∙ ap (λ x. m / 2 ^ r / 2 ^ x % 2) d ∙ ap (λ x. x % 2) (shr-shr m r j) ∙ ap (λ x. m / 2 ^ x % 2) (sym e)
+
+    go : (k < r) ⊎ (r ≤ k) → (In (from m r) k → In m k × (r ≤ k)) × (In m k → r ≤ k → In (from m r) k)
+    go (inl l) = (λ i. absurd (omega (arith, i, gone l)), λ _ g. absurd (omega arith))
+    go (inr l) = let e = same (k - r) (omega arith) l in (λ i. (sym e ∙ i, l), λ i _. e ∙ i)
+
+-- two numbers with the same ranks are equal
+pub same_set : (w m n : ℕ) → m < 2 ^ w → n < 2 ^ w → ((k : ℕ) → (In m k → In n k) × (In n k → In m k)) → m ≡ n
+same_set w m n h l f = same_from_bits_below w m n h l (λ k _. same (m / 2 ^ k % 2) (n / 2 ^ k % 2) (bit_at-lt m k) (bit_at-lt n k) (f k).0 (f k).1)
+  where
+    same : (a b : ℕ) → a < 2 → b < 2 → (a ≡ 1 → b ≡ 1) → (b ≡ 1 → a ≡ 1) → a ≡ b
+    same a b p q f g = grind arith
+
 -- all the ranks below j
 pub in_ones : (j k : ℕ) → (In (2 ^ j - 1) k → k < j) × (k < j → In (2 ^ j - 1) k)
-in_ones j k = (in_below j (2 ^ j - 1) k (ones_lt j), λ h. set_at (j - k - 1) (omega arith))
-  where
-    set_at : (i : ℕ) → j ≡ (i + 1) + k → In (2 ^ j - 1) k
-    set_at i e =
-        ap (λ x. (2 ^ x - 1) / 2 ^ k % 2) e ∙ ap (λ x. x / 2 ^ k % 2) (ones_split (i + 1) k)
-        ∙ ap (λ x. x % 2) (high (2 ^ (i + 1) - 1) k (ones_lt k)) ∙ ap (λ x. x % 2) (ones_split i 1) ∙ low (2 ^ i - 1) 1 (omega arith)
+in_ones j k = (in_below j (2 ^ j - 1) k (ones_lt j), bit_at_ones j k)
 
 pub in_run : (a b k : ℕ) → (In (run a b) k → (a ≤ k) × (k ≤ b)) × (a ≤ k → k ≤ b → In (run a b) k)
 in_run a b k =
@@ -182,29 +107,23 @@ gapless_run w m a b h ia least ib most g =
     ]
 
 -- the common part
-bit : (n : ℕ) → (n % 2 ≡ 0) ⊎ (n % 2 ≡ 1)
-bit n = go (cases_lt (n % 2) 1)
-  where
-    go : (n % 2 < 1) ⊎ (1 ≤ n % 2) → (n % 2 ≡ 0) ⊎ (n % 2 ≡ 1)
-    go (inl l) = inl (omega arith)
-    go (inr l) = inr (omega (arith, mod-lt n {m = 2} (omega arith)))
-
-and_bit : (x y : ℕ) → (bit_and x y % 2 ≡ 1 → (x % 2 ≡ 1) × (y % 2 ≡ 1)) × (x % 2 ≡ 1 → y % 2 ≡ 1 → bit_and x y % 2 ≡ 1)
-and_bit x y = go (bit x) (bit y)
-  where
-    go : (x % 2 ≡ 0) ⊎ (x % 2 ≡ 1) → (y % 2 ≡ 0) ⊎ (y % 2 ≡ 1) → (bit_and x y % 2 ≡ 1 → (x % 2 ≡ 1) × (y % 2 ≡ 1)) × (x % 2 ≡ 1 → y % 2 ≡ 1 → bit_and x y % 2 ≡ 1)
-    go (inl p) (inl q) = let s = rw (p, q) at (and_step x y) in (λ i. absurd (omega (arith, s, i)), λ i j. absurd (omega (arith, p, i)))
-    go (inl p) (inr q) = let s = rw (p, q) at (and_step x y) in (λ i. absurd (omega (arith, s, i)), λ i j. absurd (omega (arith, p, i)))
-    go (inr p) (inl q) = let s = rw (p, q) at (and_step x y) in (λ i. absurd (omega (arith, s, i)), λ i j. absurd (omega (arith, q, j)))
-    go (inr p) (inr q) = let s = rw (p, q) at (and_step x y) in (λ i. (p, q), λ i j. omega (arith, s))
-
 pub in_and : (a b k : ℕ) → (In (bit_and a b) k → In a k × In b k) × (In a k → In b k → In (bit_and a b) k)
 in_and a b k =
-    let e : bit_and a b / 2 ^ k % 2 ≡ bit_and (a / 2 ^ k) (b / 2 ^ k) % 2 = ap (λ z. z % 2) (and_shr a b k) in
-    let h = and_bit (a / 2 ^ k) (b / 2 ^ k) in
-    (λ i. h.0 (sym e ∙ i), λ i j. e ∙ h.1 i j)
+    let e = bit_at_and a b k in
+    let p = bit_at-lt a k in
+    let q = bit_at-lt b k in
+    (λ i. (omega (arith, e), omega (arith, e)), λ i j. omega (arith, e))
 
 -- how many ranks
+half_div : (m r : ℕ) → m / 2 / 2 ^ r ≡ m / 2 ^ suc r
+half_div m r = shr-shr m 1 r ∙ ap (λ k. m / 2 ^ k) (one-add r)
+
+half_below : (k n : ℕ) → n < 2 ^ suc k → n / 2 < 2 ^ k
+half_below k n h = shr_lt k 1 (subst (λ (x : ℕ). n < 2 ^ x) (sym (add-one k)) h)
+
+div_one : (m : ℕ) → m / 2 ^ 0 ≡ m
+div_one m = omega arith
+
 size_low : (m k : ℕ) → size_below m (suc k) ≡ m % 2 + size_below (m / 2) k
 size_low m zero = omega (arith, div_one m)
 size_low m (suc k) = omega (arith, half_div m k, size_low m k, ap (λ x. x % 2) (half_div m k))

@@ -1,5 +1,5 @@
 -- A set of ranks is written as a number, its mask, in which rank r counts 2 ^ r.
-use Rattle.std.specs.Prelude.{◌≡◌, ℕ, zero, suc, ◌+◌, ◌-◌, ◌*◌, ◌/◌, ◌%◌, ◌^◌, ◌<◌}
+use Rattle.std.specs.Prelude.{◌≡◌, ℕ, zero, suc, ◌+◌, ◌-◌, ◌*◌, ◌/◌, ◌%◌, ◌^◌, ◌<◌, ◌≤◌}
 
 -- rank r is in the set with the mask m
 abbrev pub In : ℕ → ℕ → Type 0
@@ -39,3 +39,15 @@ Has m P = (k : ℕ) → (In m k → P k) × (P k → In m k)
 -- no rank has P
 abbrev pub NoRank : (ℕ → Type 0) → Type 0
 NoRank P = (k : ℕ) → P k → ⊥
+
+-- m is the full scale of a width from 1 to 48
+pub record FullScale (width m : ℕ) : Type 0 where
+  pub taken : (1 ≤ width) × (width ≤ 48)
+  pub value : m ≡ full_scale width
+  pub ranks : Has m (λ k. k < width)
+
+-- m has the ranks from low up to high, both of them ranks
+pub record Span (low high m : ℕ) : Type 0 where
+  pub taken : (low ≤ high) × (high < 48)
+  pub value : m ≡ run low high
+  pub ranks : Has m (λ k. (low ≤ k) × (k ≤ high))

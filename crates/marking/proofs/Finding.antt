@@ -1,46 +1,22 @@
 -- The marks found from the top are the marks, and there are no others.
-use Rattle.std.proofs.Common.{◌≡◌, ℕ, zero, suc, ◌<◌, ◌≤◌, max, Bool, true, false, cond, ltb, ◌⊎◌, List, length, take, Some, None, MatchBool, Option, sym, refl, ap, ◌∙◌, subst, inl, inr, arith}
+use Rattle.std.proofs.Common.{◌≡◌, ℕ, ◌<◌, ◌≤◌, max, ◌⊎◌, List, length, take, Some, None, Option, sym, refl, ap, ◌∙◌, subst, ⊎_elim, inl, inr, arith}
+use Rattle.std.specs.Prelude.{◌↔◌, IsTrue}
+use Rattle.std.specs.Bool.{one_answer}
 use lib.ListN.{get_or-eq_default}
 use Rattle.std.proofs.lemmas.List.{get_or-take, length-take}
-use Rattle.std.proofs.lemmas.Bool.{cases_eq, cases_order, cond_both, ltb-true, ltb-false}
+use Rattle.std.proofs.lemmas.Bool.{cases_lt, cases_order}
 use Rattle.loads.specs.declared.weighing.Weight.{Weight}
 use Rattle.loads.specs.declared.weighing.Weight.TheVariants.{Lighter as lighter, Equal as equal, Heavier as heavier}
-use Rattle.loads.specs.Counts.{by_counts}
+use Rattle.loads.specs.Counts.{by_counts, Deciding}
+use Rattle.marking.specs.declared.counts.Counts.{Counts}
 use Rattle.marking.specs.declared.marks.Marks.{Marks}
-use Rattle.marking.specs.Marks.{occurs, AlphaIs, BetaIs, GammaSays, SigmaSays, Marked}
-use Rattle.marking.proofs.Counts.{Says}
-
--- among the ranks below k, f has fewer at the highest where the two differ
-abbrev Front : (ℕ → ℕ) → (ℕ → ℕ) → ℕ → Type 0
-Front f g k = (p : ℕ) × (p < k) × (f p < g p) × ((h : ℕ) → p < h → h < k → f h ≡ g h)
-
--- what holds below k and at k holds below k + 1
-upto : (P : ℕ → Type 0) (k : ℕ) → P k → (h : ℕ) → (h < k → P h) → h < suc k → P h
-upto P k here h under l = go (cases_eq k h)
-  where
-    go : (k ≡ h) ⊎ (k ≡ h → ⊥) → P h
-    go (inl e) = subst P e here
-    go (inr n) = under (omega arith)
-
--- the comparison of the ranks below k alone
-pub cmp_front : (f g : ℕ → ℕ) (k : ℕ) → Says (by_counts f g k) (Front f g k) ((h : ℕ) → h < k → f h ≡ g h) (Front g f k)
-cmp_front f g zero = λ h l. absurd (omega arith)
-cmp_front f g (suc k) =
-    cond_both (ltb (f k) (g k)) lighter (cond (ltb (g k) (f k)) heavier (by_counts f g k)) (λ o. Says o (Front f g (suc k)) ((h : ℕ) → h < suc k → f h ≡ g h) (Front g f (suc k)))
-    (λ t. (k, omega arith, ltb-true (f k) (g k) t, λ h l m. absurd (omega arith)))
-    (λ t. cond_both (ltb (g k) (f k)) heavier (by_counts f g k) (λ o. Says o (Front f g (suc k)) ((h : ℕ) → h < suc k → f h ≡ g h) (Front g f (suc k)))
-    (λ s. (k, omega arith, ltb-true (g k) (f k) s, λ h l m. absurd (omega arith)))
-    (λ s. go (omega (arith, ltb-false (f k) (g k) t, ltb-false (g k) (f k) s)) (by_counts f g k) (cmp_front f g k)))
-  where
-    go : f k ≡ g k → (o : Weight) → Says o (Front f g k) ((h : ℕ) → h < k → f h ≡ g h) (Front g f k) → Says o (Front f g (suc k)) ((h : ℕ) → h < suc k → f h ≡ g h) (Front g f (suc k))
-    go e lighter x = (x.0, omega (arith, x.1), x.2, λ h l m. upto (λ h. f h ≡ g h) k e h (x.3 h l) m)
-    go e equal x = λ h. upto (λ h. f h ≡ g h) k e h (x h)
-    go e heavier x = (x.0, omega (arith, x.1), x.2, λ h l m. upto (λ h. g h ≡ f h) k (sym e) h (x.3 h l) m)
+use Rattle.marking.specs.Marks.{occurs, on_left, on_right, AlphaIs, BetaIs, GammaSays, SigmaSays, Marked, OnlyMarks}
+use Rattle.marking.proofs.Comparing.{Says}
+use Rattle.marking.proofs.Order.{Front, cmp_front}
 
 -- σ by comparing the counts below b
-sigma_of : (f g : ℕ → ℕ) (b : ℕ) (w : Weight) → Says w (Front f g b) ((h : ℕ) → h < b → f h ≡ g h) (Front g f b) → (t : Bool) → cond t (w ≡ heavier) (w ≡ heavier → ⊥) → MatchBool t (SigmaSays f g (Some b)) (SigmaSays f g (Some b) → ⊥)
-sigma_of f g b lighter x true e = let z : ◌≡◌ {A = ℕ} 0 1 = cc in absurd (omega arith)
-sigma_of f g b lighter x false e = λ y. meet y (cases_order x.0 y.0)
+sigma_of : (f g : ℕ → ℕ) (b : ℕ) (w : Weight) → Says w (Front f g b) ((h : ℕ) → h < b → f h ≡ g h) (Front g f b) → (w ≡ heavier) ↔ SigmaSays f g (Some b)
+sigma_of f g b lighter x = (λ e. absurd (cc), λ y. absurd (meet y (cases_order x.0 y.0)))
   where
     meet : (y : SigmaSays f g (Some b)) → (x.0 ≡ y.0) ⊎ ((x.0 < y.0) ⊎ (y.0 < x.0)) → ⊥
     meet y (inl e) =
@@ -48,32 +24,29 @@ sigma_of f g b lighter x false e = λ y. meet y (cases_order x.0 y.0)
         omega (arith, x.2)
     meet y (inr (inl l)) = omega (arith, x.3 y.0 l y.1, y.2)
     meet y (inr (inr l)) = omega (arith, y.3 x.0 l x.1, x.2)
-sigma_of f g b equal x true e = let z : ◌≡◌ {A = ℕ} 0 1 = cc in absurd (omega arith)
-sigma_of f g b equal x false e = λ y. omega (arith, x y.0 y.1, y.2)
-sigma_of f g b heavier x true e = (x.0, x.1, x.2, λ h l m. sym (x.3 h l m))
-sigma_of f g b heavier x false e = absurd (e refl)
+sigma_of f g b equal x = (λ e. absurd (cc), λ y. absurd (omega (arith, x y.0 y.1, y.2)))
+sigma_of f g b heavier x = (λ _. (x.0, x.1, x.2, λ h l m. sym (x.3 h l m)), λ _. refl)
 
 -- only the counts below b matter
 sigma_front : (f g p q : ℕ → ℕ) (b : ℕ) → ((h : ℕ) → h < b → f h ≡ p h) → ((h : ℕ) → h < b → g h ≡ q h) → SigmaSays f g (Some b) → SigmaSays p q (Some b)
 sigma_front f g p q b u v s = (s.0, s.1, omega (arith, s.2, u s.0 s.1, v s.0 s.1), λ h l m. sym (u h m) ∙ s.3 h l m ∙ v h m)
 
-when_same : (t : Bool) (P Q : Type 0) → (P → Q) → (Q → P) → MatchBool t P (P → ⊥) → MatchBool t Q (Q → ⊥)
-when_same true P Q f g w = f w
-when_same false P Q f g w = λ x. w (g x)
-
-pub sigma_by : (xs ys : List ℕ) (b : ℕ) (w : Weight) (t : Bool) → b ≤ length xs → b ≤ length ys
-    → w ≡ by_counts (occurs (take b xs)) (occurs (take b ys)) (max (length (take b xs)) (length (take b ys)))
-    → cond t (w ≡ heavier) (w ≡ heavier → ⊥) → MatchBool t (SigmaSays (occurs xs) (occurs ys) (Some b)) (SigmaSays (occurs xs) (occurs ys) (Some b) → ⊥)
-sigma_by xs ys b w t l m e d =
-    let n : max (length (take b xs)) (length (take b ys)) ≡ b = omega (arith, length-take b xs, length-take b ys) in
-    let f : ℕ → ℕ = occurs (take b xs) in
-    let g : ℕ → ℕ = occurs (take b ys) in
-    let u : (h : ℕ) → h < b → f h ≡ occurs xs h = λ h k. get_or-take b xs h 0 k in
-    let v : (h : ℕ) → h < b → g h ≡ occurs ys h = λ h k. get_or-take b ys h 0 k in
-    when_same t (SigmaSays f g (Some b)) (SigmaSays (occurs xs) (occurs ys) (Some b))
-    (sigma_front f g (occurs xs) (occurs ys) b u v)
-    (sigma_front (occurs xs) (occurs ys) f g b (λ h k. sym (u h k)) (λ h k. sym (v h k)))
-    (sigma_of f g b w (subst (λ (o : Weight). Says o (Front f g b) ((h : ℕ) → h < b → f h ≡ g h) (Front g f b)) (sym (e ∙ ap (by_counts f g) n)) (cmp_front f g b)) t d)
+-- σ by what is answered of the ranks below b
+pub sigma_by : (counts : Counts) (b : ℕ) (w : Weight) → b ≤ 48
+    → w ≡ by_counts (occurs (take b counts.left.now)) (occurs (take b counts.right.now)) (max (length (take b counts.left.now)) (length (take b counts.right.now)))
+    → (w ≡ heavier) ↔ SigmaSays (on_left counts) (on_right counts) (Some b)
+sigma_by counts b w l e =
+    let n : max (length (take b counts.left.now)) (length (take b counts.right.now)) ≡ b =
+    omega (arith, length-take b counts.left.now, length-take b counts.right.now, counts.left_len, counts.right_len) in
+    let f : ℕ → ℕ = occurs (take b counts.left.now) in
+    let g : ℕ → ℕ = occurs (take b counts.right.now) in
+    let u : (h : ℕ) → h < b → f h ≡ on_left counts h = λ h k. get_or-take b counts.left.now h 0 k in
+    let v : (h : ℕ) → h < b → g h ≡ on_right counts h = λ h k. get_or-take b counts.right.now h 0 k in
+    let told : (w ≡ heavier) ↔ SigmaSays f g (Some b) =
+    sigma_of f g b w (subst (λ (o : Weight). Says o (Front f g b) ((h : ℕ) → h < b → f h ≡ g h) (Front g f b)) (sym (e ∙ ap (by_counts f g) n)) (cmp_front f g b)) in (
+      λ q. sigma_front f g (on_left counts) (on_right counts) b u v (told.0 q),
+      λ s. told.1 (sigma_front (on_left counts) (on_right counts) f g b (λ h k. sym (u h k)) (λ h k. sym (v h k)) s),
+    )
 
 -- past the end nothing is counted
 pub past : (xs ys : List ℕ) (h : ℕ) → length xs ≤ h → length ys ≤ h → occurs xs h ≡ occurs ys h
@@ -104,21 +77,24 @@ module _ (ox oy : ℕ → ℕ) where
       go (inr (inl l)) = absurd (omega (arith, p.2 c l q.0, q.1))
       go (inr (inr l)) = absurd (omega (arith, q.2 b l p.0, p.1))
 
-when_one : (s t : Bool) (P : Type 0) → MatchBool s P (P → ⊥) → MatchBool t P (P → ⊥) → s ≡ t
-when_one true true P p q = refl
-when_one true false P p q = absurd (q p)
-when_one false true P p q = absurd (p q)
-when_one false false P p q = refl
-
-pub only : (ox oy : ℕ → ℕ) (m : Marks) → Marked ox oy m → (n : Marks) → Marked ox oy n → n ≡ m
+only : (ox oy : ℕ → ℕ) (m : Marks) → Marked ox oy m → (n : Marks) → Marked ox oy n → n ≡ m
 only ox oy m p n q =
     let a : n.alpha ≡ m.alpha = alpha_same ox oy n.alpha m.alpha q.alpha_is p.alpha_is in
     let b : n.beta ≡ m.beta = beta_same ox oy m.alpha n.beta m.beta (subst (λ (o : Option ℕ). BetaIs ox oy o n.beta) a q.beta_is) p.beta_is in
-    let c : n.gamma ≡ m.gamma = when_one n.gamma m.gamma (GammaSays ox oy m.alpha m.beta)
-    (subst (λ (o : Option ℕ). MatchBool n.gamma (GammaSays ox oy o m.beta) (GammaSays ox oy o m.beta → ⊥)) a
-    (subst (λ (o : Option ℕ). MatchBool n.gamma (GammaSays ox oy n.alpha o) (GammaSays ox oy n.alpha o → ⊥)) b q.gamma_is))
+    let c : n.gamma ≡ m.gamma = one_answer n.gamma m.gamma
+    (subst (λ (o : Option ℕ). IsTrue n.gamma ↔ GammaSays ox oy o m.beta) a
+    (subst (λ (o : Option ℕ). IsTrue n.gamma ↔ GammaSays ox oy n.alpha o) b q.gamma_is))
     p.gamma_is in
-    let d : n.sigma ≡ m.sigma = when_one n.sigma m.sigma (SigmaSays ox oy m.beta)
-    (subst (λ (o : Option ℕ). MatchBool n.sigma (SigmaSays ox oy o) (SigmaSays ox oy o → ⊥)) b q.sigma_is)
+    let d : n.sigma ≡ m.sigma = one_answer n.sigma m.sigma
+    (subst (λ (o : Option ℕ). IsTrue n.sigma ↔ SigmaSays ox oy o) b q.sigma_is)
     p.sigma_is in
     λ i. record { alpha = a i; beta = b i; gamma = c i; sigma = d i }
+
+-- so what has the marks has the only ones
+pub only_marks : (ox oy : ℕ → ℕ) (m : Marks) → Marked ox oy m → OnlyMarks ox oy m
+only_marks ox oy m p = record { marked = p; alone = only ox oy m p }
+
+-- the highest rank below k whose counts differ is the highest of all, where none from k up differ
+pub alpha_is : (f g : ℕ → ℕ) (k : ℕ) (r : Option ℕ) → ((h : ℕ) → k ≤ h → f h ≡ g h) → Deciding f g k r → AlphaIs f g r
+alpha_is f g k None e p = λ h. ⊎_elim (p h (omega arith)) (e h) (cases_lt h k)
+alpha_is f g k (Some α) e p = (p.1, λ h m. ⊎_elim (p.2 h (omega (arith, m))) (e h) (cases_lt h k))

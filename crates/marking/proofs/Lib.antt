@@ -1,4 +1,4 @@
-pub mod Counts
+pub mod Comparing
 pub mod Finding
 pub mod Order
 pub mod Shifts

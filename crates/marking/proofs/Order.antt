@@ -1,12 +1,13 @@
 -- The laws of the comparison of counts.
-use Rattle.std.proofs.Common.{◌≡◌, ℕ, zero, suc, ◌<◌, ◌≤◌, false, cond, ltb, ◌⊎◌, sym, subst, inl, inr, arith}
-use Rattle.std.proofs.lemmas.Bool.{cases_eq, cases_order, cond_both, ltb-true, ltb-false}
-use Rattle.loads.specs.declared.weighing.Weight.TheVariants.{Lighter as lighter, Heavier as heavier}
+use Rattle.std.proofs.Common.{◌≡◌, ℕ, zero, suc, ◌<◌, ◌≤◌, cond, ltb, ◌⊎◌, sym, subst, ⊎_elim, inl, inr, arith, below_more}
+use Rattle.std.proofs.lemmas.Bool.{cases_lt, cases_order, cond_both, ltb-true, ltb-false}
+use Rattle.loads.specs.declared.weighing.Weight.TheVariants.{Lighter as lighter, Equal as equal, Heavier as heavier}
+use Rattle.loads.specs.declared.weighing.Weight.{Weight}
 use Rattle.loads.specs.Counts.{by_counts}
 use Rattle.loads.specs.Kinds.{by_rank}
 use Rattle.loads.proofs.Counting as counting
 use Rattle.loads.proofs.FromTop.{rank_order}
-use Rattle.marking.proofs.Counts.{Below, Same, AtMost, Says, one}
+use Rattle.marking.proofs.Comparing.{Below, Same, AtMost, Says, one}
 
 pub one_same : (r h : ℕ) → r ≡ h → one r h ≡ 1
 unfolding one
@@ -34,20 +35,30 @@ pub above_not_at_most : (f g : ℕ → ℕ) → Below g f → AtMost f g → ⊥
 above_not_at_most f g x (inl y) = below_not_above f g y x
 above_not_at_most f g x (inr e) = below_not_same g f x (λ h. sym (e h))
 
--- the comparison from the top tells which of the three holds
-pub cmp_is : (f g : ℕ → ℕ) (d : ℕ) → ((h : ℕ) → d ≤ h → f h ≡ g h) → Says (by_counts f g d) (Below f g) (Same f g) (Below g f)
-cmp_is f g zero e = λ h. e h (omega arith)
-cmp_is f g (suc d) e =
-    cond_both (ltb (f d) (g d)) lighter (cond (ltb (g d) (f d)) heavier (by_counts f g d)) (λ o. Says o (Below f g) (Same f g) (Below g f))
-    (λ t. (d, ltb-true (f d) (g d) t, λ h l. e h l))
-    (λ t. cond_both (ltb (g d) (f d)) heavier (by_counts f g d) (λ o. Says o (Below f g) (Same f g) (Below g f))
-    (λ s. (d, ltb-true (g d) (f d) s, λ h l. sym (e h l)))
-    (λ s. cmp_is f g d (λ h l. go t s h l (cases_eq d h))))
+-- among the ranks below k, f has fewer at the highest where the two differ
+abbrev pub Front : (ℕ → ℕ) → (ℕ → ℕ) → ℕ → Type 0
+Front f g k = (p : ℕ) × (p < k) × (f p < g p) × ((h : ℕ) → p < h → h < k → f h ≡ g h)
+
+-- what the comparison of the ranks below k tells of them
+pub cmp_front : (f g : ℕ → ℕ) (k : ℕ) → Says (by_counts f g k) (Front f g k) ((h : ℕ) → h < k → f h ≡ g h) (Front g f k)
+cmp_front f g zero = λ h l. absurd (omega arith)
+cmp_front f g (suc k) =
+    cond_both (ltb (f k) (g k)) lighter (cond (ltb (g k) (f k)) heavier (by_counts f g k)) (λ o. Says o (Front f g (suc k)) ((h : ℕ) → h < suc k → f h ≡ g h) (Front g f (suc k)))
+    (λ t. (k, omega arith, ltb-true (f k) (g k) t, λ h l m. absurd (omega arith)))
+    (λ t. cond_both (ltb (g k) (f k)) heavier (by_counts f g k) (λ o. Says o (Front f g (suc k)) ((h : ℕ) → h < suc k → f h ≡ g h) (Front g f (suc k)))
+    (λ s. (k, omega arith, ltb-true (g k) (f k) s, λ h l m. absurd (omega arith)))
+    (λ s. go (omega (arith, ltb-false (f k) (g k) t, ltb-false (g k) (f k) s)) (by_counts f g k) (cmp_front f g k)))
   where
-    go : ltb (f d) (g d) ≡ false → ltb (g d) (f d) ≡ false → (h : ℕ) → d ≤ h → (d ≡ h) ⊎ (d ≡ h → ⊥) → f h ≡ g h
-    go t s h l (inl q) =
-        let x = ltb-false (f d) (g d) t in
-        let y = ltb-false (g d) (f d) s in
-        let z : f d ≡ g d = omega arith in
-        subst (λ (x : ℕ). f x ≡ g x) q z
-    go t s h l (inr n) = e h (omega arith)
+    go : f k ≡ g k → (o : Weight) → Says o (Front f g k) ((h : ℕ) → h < k → f h ≡ g h) (Front g f k) → Says o (Front f g (suc k)) ((h : ℕ) → h < suc k → f h ≡ g h) (Front g f (suc k))
+    go e lighter x = (x.0, omega (arith, x.1), x.2, λ h l m. below_more (λ h. x.0 < h → f h ≡ g h) k (λ h n l. x.3 h l n) (λ _. e) h (omega (arith, m)) l)
+    go e equal x = λ h m. below_more (λ h. f h ≡ g h) k x e h (omega (arith, m))
+    go e heavier x = (x.0, omega (arith, x.1), x.2, λ h l m. below_more (λ h. x.0 < h → g h ≡ f h) k (λ h n l. x.3 h l n) (λ _. sym e) h (omega (arith, m)) l)
+
+-- and of all, where they agree from d on
+pub cmp_is : (f g : ℕ → ℕ) (d : ℕ) → ((h : ℕ) → d ≤ h → f h ≡ g h) → Says (by_counts f g d) (Below f g) (Same f g) (Below g f)
+cmp_is f g d e = go (by_counts f g d) (cmp_front f g d)
+  where
+    go : (o : Weight) → Says o (Front f g d) ((h : ℕ) → h < d → f h ≡ g h) (Front g f d) → Says o (Below f g) (Same f g) (Below g f)
+    go lighter x = (x.0, x.2, λ h l. ⊎_elim (x.3 h l) (e h) (cases_lt h d))
+    go equal x = λ h. ⊎_elim (x h) (e h) (cases_lt h d)
+    go heavier x = (x.0, x.2, λ h l. ⊎_elim (x.3 h l) (λ m. sym (e h m)) (cases_lt h d))

@@ -5,7 +5,7 @@ use Rattle.std.proofs.lemmas.Bool.{cases_lt, cases_eq}
 use Rattle.loads.specs.declared.weighing.Weight.{Weight}
 use Rattle.loads.specs.declared.weighing.Weight.TheVariants.{Lighter as lighter, Equal as equal, Heavier as heavier}
 use Rattle.loads.specs.Counts.{by_counts}
-use Rattle.marking.proofs.Counts.{Below, Same, AtMost, Says, Shifted, Alpha, Beta, NoBeta, Gamma, Sigma}
+use Rattle.marking.proofs.Comparing.{Below, Same, AtMost, Says, Shifted, Alpha, Beta, NoBeta, Gamma, Sigma}
 use Rattle.marking.proofs.Order.{one_same, one_other, above_not_at_most, cmp_is}
 
 -- where f is nowhere more from b on, and less at p, it is below

@@ -1,17 +1,20 @@
 -- The marks decide: of a change by one, and of a member of a load that is moved.
-use Rattle.std.proofs.Common.{◌≡◌, ℕ, suc, ◌+◌, ◌<◌, ◌≤◌, Bool, true, false, ◌⊎◌, List, ◌∷◌, ◌++◌, length, get_or, take, drop, set, Some, None, MatchBool, Option, sym, ap, ◌∙◌, subst, inl, inr, arith}
+use Rattle.std.proofs.Common.{◌≡◌, ℕ, suc, ◌+◌, ◌<◌, ◌≤◌, true, false, not, ◌⊎◌, List, ◌∷◌, ◌++◌, length, get_or, take, drop, set, Some, None, Option, sym, ap, ◌∙◌, subst, subst₂, inl, inr, arith}
 use lib.ListN.{get_or-eq_default}
 use lib.Seq.{set_split, split_at}
-use Rattle.std.proofs.lemmas.Bool.{cases_eq, cases_lt, cases_order}
+use Rattle.std.proofs.lemmas.Bool.{cases_eq, cases_lt, cases_order, not-true}
+use Rattle.std.specs.Prelude.{◌↔◌, IsTrue}
+use Rattle.std.proofs.lemmas.Bool.Decides.{not_from_Decides}
 use Rattle.loads.specs.Counts.{Counted}
 use Rattle.loads.specs.Kinds.{by_rank}
 use Rattle.loads.specs.Loads.{count, NotHeavier}
 use Rattle.loads.proofs.FromTop.{rank_lower, lower_rank, count_past}
 use Rattle.loads.proofs.Weights.{count_insert}
 use Rattle.marking.specs.declared.marks.Marks.{Marks}
-use Rattle.marking.specs.Marks.{occurs, AlphaIs, BetaIs, GammaSays, SigmaSays, Marked}
-use Rattle.marking.specs.Bounds.{Iff, Loaded, IsFloor}
-use Rattle.marking.proofs.Counts.{AtMost, one, Shifted, Moved, Alpha, Beta, NoBeta, Gamma, Sigma}
+use Rattle.marking.specs.declared.counts.Counts.{Counts}
+use Rattle.marking.specs.Marks.{on_left, on_right, AlphaIs, BetaIs, GammaSays, SigmaSays}
+use Rattle.marking.specs.Bounds.{Loaded, IsFloor, FewerAtAlpha}
+use Rattle.marking.proofs.Comparing.{AtMost, one, Shifted, Moved, Alpha, Beta, NoBeta, Gamma, Sigma}
 use Rattle.marking.proofs.Shifts.{at_alpha_spare, at_alpha_no_beta, at_alpha_over_beta, at_alpha_no_gamma, at_alpha_under_beta, at_beta_short, at_beta_sigma, at_beta_no_sigma}
 
 -- loads compare as their counts do
@@ -67,7 +70,7 @@ module _ (ox oy : ℕ → ℕ) (px : (h : ℕ) → 48 ≤ h → ox h ≡ 0) (py 
 
   -- what is shown of every change by one at α is a floor
   abbrev pub Decides : ℕ → ℕ → Type 0
-  Decides α fl = (f g : ℕ → ℕ) (t : ℕ) → t < α → Shifted ox oy f g t α → Iff (fl ≤ t) (AtMost f g)
+  Decides α fl = (f g : ℕ → ℕ) (t : ℕ) → t < α → Shifted ox oy f g t α → (fl ≤ t) ↔ AtMost f g
 
   pub floor_is : (α fl : ℕ) → Decides α fl → IsFloor ox oy α fl
   floor_is α fl d = record {
@@ -118,57 +121,69 @@ module _ (ox oy : ℕ → ℕ) (px : (h : ℕ) → 48 ≤ h → ox h ≡ 0) (py 
             under f g t l s n (inl m) = absurd (at_alpha_under_beta ox oy f g t α l s β a x b c m n)
             under f g t l s n (inr m) = m
 
--- the same with the counts in arrays and the marks found
-module _ (l r : List ℕ) (m : Marks) (α : ℕ) (long_left : length l ≡ 48) (long_right : length r ≡ 48) (marked : Marked (occurs l) (occurs r) m) (at : m.alpha ≡ Some α) (less : occurs l α < occurs r α) where
-  nothing : (xs : List ℕ) → length xs ≡ 48 → (h : ℕ) → 48 ≤ h → occurs xs h ≡ 0
-  nothing xs e h k = get_or-eq_default xs 0 {n = h} (omega (arith, e, k))
+-- the same of counts in arrays and the marks found
+module _ (counts : Counts) (m : Marks) (α : ℕ) (known : FewerAtAlpha (on_left counts) (on_right counts) m α) where
+  none_left : (h : ℕ) → 48 ≤ h → on_left counts h ≡ 0
+  none_left h k = get_or-eq_default counts.left.now 0 {n = h} (omega (arith, counts.left_len, k))
 
-  alpha_here : Alpha (occurs l) (occurs r) α
-  alpha_here = (less, (subst (AlphaIs (occurs l) (occurs r)) at marked.alpha_is).1)
+  none_right : (h : ℕ) → 48 ≤ h → on_right counts h ≡ 0
+  none_right h k = get_or-eq_default counts.right.now 0 {n = h} (omega (arith, counts.right_len, k))
 
-  beta_here : BetaIs (occurs l) (occurs r) (Some α) m.beta
-  beta_here = subst (λ (o : Option ℕ). BetaIs (occurs l) (occurs r) o m.beta) at marked.beta_is
+  alpha_here : Alpha (on_left counts) (on_right counts) α
+  alpha_here = (known.fewer, (subst (AlphaIs (on_left counts) (on_right counts)) known.at known.marked.alpha_is).1)
 
-  pub spare : occurs l α + 1 < occurs r α → IsFloor (occurs l) (occurs r) α 0
-  spare x = floor_spare (occurs l) (occurs r) (nothing l long_left) (nothing r long_right) α alpha_here x
+  beta_here : (o : Option ℕ) → m.beta ≡ o → BetaIs (on_left counts) (on_right counts) (Some α) o
+  beta_here o e = subst₂ (BetaIs (on_left counts) (on_right counts)) known.at e known.marked.beta_is
 
-  module _ (x : occurs r α ≤ occurs l α + 1) where
-    one_less : occurs l α + 1 ≡ occurs r α
-    one_less = omega (arith, less, x)
+  pub spare : on_left counts α + 1 < on_right counts α → IsFloor (on_left counts) (on_right counts) α 0
+  spare x = floor_spare (on_left counts) (on_right counts) none_left none_right α alpha_here x
 
-    pub no_beta : m.beta ≡ None → IsFloor (occurs l) (occurs r) α 0
-    no_beta e = floor_no_beta (occurs l) (occurs r) (nothing l long_left) (nothing r long_right) α alpha_here one_less (subst (BetaIs (occurs l) (occurs r) (Some α)) e beta_here)
+  pub no_beta : m.beta ≡ None → IsFloor (on_left counts) (on_right counts) α 0
+  no_beta e = go (cases_lt (on_left counts α + 1) (on_right counts α))
+    where
+      go : (on_left counts α + 1 < on_right counts α) ⊎ (on_right counts α ≤ on_left counts α + 1) → IsFloor (on_left counts) (on_right counts) α 0
+      go (inl x) = spare x
+      go (inr x) = floor_no_beta (on_left counts) (on_right counts) none_left none_right α alpha_here (omega (arith, known.fewer, x)) (beta_here None e)
 
-    module _ (β : ℕ) (e : m.beta ≡ Some β) where
-      beta_there : Beta (occurs l) (occurs r) α β
-      beta_there = subst (BetaIs (occurs l) (occurs r) (Some α)) e beta_here
+  module _ (β : ℕ) (e : m.beta ≡ Some β) where
+    beta_there : Beta (on_left counts) (on_right counts) α β
+    beta_there = beta_here (Some β) e
 
-      gamma_there : MatchBool m.gamma (Gamma (occurs l) (occurs r) α β) (Gamma (occurs l) (occurs r) α β → ⊥)
-      gamma_there =
-          subst (λ (o : Option ℕ). MatchBool m.gamma (GammaSays (occurs l) (occurs r) (Some α) o) (GammaSays (occurs l) (occurs r) (Some α) o → ⊥)) e
-          (subst (λ (o : Option ℕ). MatchBool m.gamma (GammaSays (occurs l) (occurs r) o m.beta) (GammaSays (occurs l) (occurs r) o m.beta → ⊥)) at marked.gamma_is)
+    gamma_there : IsTrue m.gamma ↔ Gamma (on_left counts) (on_right counts) α β
+    gamma_there = subst₂ (λ (a b : Option ℕ). IsTrue m.gamma ↔ GammaSays (on_left counts) (on_right counts) a b) known.at e known.marked.gamma_is
 
-      sigma_there : MatchBool m.sigma (Sigma (occurs l) (occurs r) β) (Sigma (occurs l) (occurs r) β → ⊥)
-      sigma_there = subst (λ (o : Option ℕ). MatchBool m.sigma (SigmaSays (occurs l) (occurs r) o) (SigmaSays (occurs l) (occurs r) o → ⊥)) e marked.sigma_is
+    sigma_there : IsTrue m.sigma ↔ Sigma (on_left counts) (on_right counts) β
+    sigma_there = subst (λ (o : Option ℕ). IsTrue m.sigma ↔ SigmaSays (on_left counts) (on_right counts) o) e known.marked.sigma_is
 
-      when : (b : Bool) (P Q : Type 0) → MatchBool b P Q → (v : Bool) → b ≡ v → MatchBool v P Q
-      when b P Q w v q = subst (λ (z : Bool). MatchBool z P Q) q w
+    beta_more : on_right counts β < on_left counts β
+    beta_more = beta_there.1
 
-      pub beta_more : occurs r β < occurs l β
-      beta_more = beta_there.1
+    pub no_gamma : not m.gamma ≡ true → IsFloor (on_left counts) (on_right counts) α 0
+    no_gamma g = go (cases_lt (on_left counts α + 1) (on_right counts α))
+      where
+        go : (on_left counts α + 1 < on_right counts α) ⊎ (on_right counts α ≤ on_left counts α + 1) → IsFloor (on_left counts) (on_right counts) α 0
+        go (inl x) = spare x
+        go (inr x) = floor_no_gamma (on_left counts) (on_right counts) none_left none_right α alpha_here (omega (arith, known.fewer, x)) β beta_there (not_from_Decides m.gamma gamma_there (not-true m.gamma g))
 
-      pub beta_below : β < α
-      beta_below = beta_there.0
+    module _ (g : m.gamma ≡ true) (x : on_right counts α ≤ on_left counts α + 1) where
+      one_less : on_left counts α + 1 ≡ on_right counts α
+      one_less = omega (arith, known.fewer, x)
 
-      pub no_gamma : m.gamma ≡ false → IsFloor (occurs l) (occurs r) α 0
-      no_gamma g = floor_no_gamma (occurs l) (occurs r) (nothing l long_left) (nothing r long_right) α alpha_here one_less β beta_there (when m.gamma _ _ gamma_there false g)
+      gamma_holds : Gamma (on_left counts) (on_right counts) α β
+      gamma_holds = gamma_there.0 g
 
-      module _ (g : m.gamma ≡ true) where
-        pub short : occurs r β + 1 < occurs l β → IsFloor (occurs l) (occurs r) α (β + 1)
-        short y = floor_short (occurs l) (occurs r) (nothing l long_left) (nothing r long_right) α alpha_here one_less β beta_there (when m.gamma _ _ gamma_there true g) y
+      pub short : on_right counts β + 1 < on_left counts β → IsFloor (on_left counts) (on_right counts) α (β + 1)
+      short y = floor_short (on_left counts) (on_right counts) none_left none_right α alpha_here one_less β beta_there gamma_holds y
 
-        pub with_sigma : occurs l β ≤ occurs r β + 1 → m.sigma ≡ true → IsFloor (occurs l) (occurs r) α (β + 1)
-        with_sigma y s = floor_sigma (occurs l) (occurs r) (nothing l long_left) (nothing r long_right) α alpha_here one_less β beta_there (when m.gamma _ _ gamma_there true g) (omega (arith, y, beta_more)) (when m.sigma _ _ sigma_there true s)
+      pub with_sigma : m.sigma ≡ true → IsFloor (on_left counts) (on_right counts) α (β + 1)
+      with_sigma s = go (cases_lt (on_right counts β + 1) (on_left counts β))
+        where
+          go : (on_right counts β + 1 < on_left counts β) ⊎ (on_left counts β ≤ on_right counts β + 1) → IsFloor (on_left counts) (on_right counts) α (β + 1)
+          go (inl y) = short y
+          go (inr y) = floor_sigma (on_left counts) (on_right counts) none_left none_right α alpha_here one_less β beta_there gamma_holds (omega (arith, y, beta_more)) (sigma_there.0 s)
 
-        pub without_sigma : occurs l β ≤ occurs r β + 1 → m.sigma ≡ false → IsFloor (occurs l) (occurs r) α β
-        without_sigma y s = floor_beta (occurs l) (occurs r) (nothing l long_left) (nothing r long_right) α alpha_here one_less β beta_there (when m.gamma _ _ gamma_there true g) (omega (arith, y, beta_more)) (when m.sigma _ _ sigma_there false s)
+      pub without_sigma : on_left counts β ≤ on_right counts β + 1 → m.sigma ≡ false → IsFloor (on_left counts) (on_right counts) α β
+      without_sigma y s = floor_beta (on_left counts) (on_right counts) none_left none_right α alpha_here one_less β beta_there gamma_holds (omega (arith, y, beta_more)) (not_from_Decides m.sigma sigma_there s)
+
+-- which floor it is, by the marks
+pub ruleset floors = (no_beta, short, with_sigma, without_sigma)

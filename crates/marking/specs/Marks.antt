@@ -1,10 +1,18 @@
 -- The marks of two counts: ox says how often each rank occurs on the left, oy on the right.
-use Rattle.std.specs.Prelude.{◌≡◌, ℕ, ◌<◌, ◌≤◌, List, Some, None, MatchBool, Option, ◌≢◌, slice_index}
+use Rattle.std.specs.Prelude.{◌≡◌, ℕ, ◌<◌, ◌≤◌, List, Some, None, IsTrue, ◌↔◌, Option, ◌≢◌, slice_index}
+use Rattle.marking.specs.declared.counts.Counts.{Counts}
 use Rattle.marking.specs.declared.marks.Marks.{Marks}
 
 -- how often a rank occurs, where xs counts the ranks from 0 up
 abbrev pub occurs : List ℕ → ℕ → ℕ
 occurs xs h = slice_index xs h
+
+-- the same of the left and of the right of two counts
+abbrev pub on_left : Counts → ℕ → ℕ
+on_left counts = occurs counts.left.now
+
+abbrev pub on_right : Counts → ℕ → ℕ
+on_right counts = occurs counts.right.now
 
 -- α is the highest rank whose counts differ, and is absent when there is none
 abbrev pub AlphaIs : (ℕ → ℕ) → (ℕ → ℕ) → Option ℕ → Type 0
@@ -36,8 +44,8 @@ SigmaSays ox oy (Some β) = (s : ℕ) × (s < β) × (oy s < ox s) × Between ox
 pub record Marked (ox oy : ℕ → ℕ) (m : Marks) : Type 0 where
   pub alpha_is : AlphaIs ox oy m.alpha
   pub beta_is : BetaIs ox oy m.alpha m.beta
-  pub gamma_is : MatchBool m.gamma (GammaSays ox oy m.alpha m.beta) (GammaSays ox oy m.alpha m.beta → ⊥)
-  pub sigma_is : MatchBool m.sigma (SigmaSays ox oy m.beta) (SigmaSays ox oy m.beta → ⊥)
+  pub gamma_is : IsTrue m.gamma ↔ GammaSays ox oy m.alpha m.beta
+  pub sigma_is : IsTrue m.sigma ↔ SigmaSays ox oy m.beta
 
 -- and no other marks are theirs
 pub record OnlyMarks (ox oy : ℕ → ℕ) (m : Marks) : Type 0 where

@@ -4,6 +4,6 @@ use crate::marks::Marks;
 #[derive(Clone, Copy)]
 pub struct Bounds {
     marks: Marks,
-    // the lowest rank that makes up for one member more at alpha; 0 without an alpha
-    floor: usize,
+    // the lowest rank at which one member less makes up for one more at alpha; none without an alpha
+    floor: Option<usize>,
 }

@@ -2,6 +2,7 @@
 #![tactic(auto)]
 
 pub mod bounds;
+pub mod counts;
 pub mod deciding;
 pub mod marks;
 pub mod scan;

@@ -1,5 +1,6 @@
-// The four marks. Ranks are counted from 0.
-#[derive(Clone, Copy, PartialEq, Eq, Debug)]
+// The four marks. Ranks are counted from 0. Each stands by itself, as it is defined: that gamma and sigma are false without a beta
+// could be said by nested Options, but no caller would read that with more ease.
+#[derive(Clone, Copy, Default, PartialEq, Eq, Debug)]
 pub struct Marks {
     // the highest rank whose counts differ
     pub alpha: Option<usize>,

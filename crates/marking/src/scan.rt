@@ -1,97 +1,78 @@
 // The marks of two counts, found from the highest rank down.
-ghost use Rattle.std.specs.Prelude.{◌≡◌, ℕ, ◌<◌, ◌≤◌, IfSome, Some, MatchBool};
-ghost use Rattle.marking.specs.Marks.{occurs, AlphaIs, BetaIs, Between, SigmaSays, Marked, OnlyMarks};
+ghost use Rattle.std.specs.Prelude.{◌≡◌, ℕ, ◌<◌, ◌≤◌, IfSome, Some, IsTrue, ◌↔◌};
+ghost use Rattle.marking.specs.Marks.{occurs, on_left, on_right, AlphaIs, BetaIs, Between, SigmaSays, Marked, OnlyMarks};
 
+use crate::counts::{Counts, RANKS};
 use crate::marks::Marks;
 use loads::rank_counts::weigh_counts;
 use loads::weighing::Weight;
 
-// How many ranks are counted.
-pub const RANKS: usize = 48;
-
-// The highest rank whose counts differ.
-fn highest_difference(left: &[u8; 48], right: &[u8; 48]) -> Option<usize>
-    ensures rank { AlphaIs (occurs left.now) (occurs right.now) result }
-    ensures below { IfSome result (λ a. a < 48) }
-{
-    for rank in (0..RANKS).rev() {
-        if left[rank] != right[rank] {
-            return Some(rank);
-        }
+impl Counts<'_> {
+    // The highest rank whose counts differ.
+    fn highest_difference(&self) -> Option<usize>
+        ensures rank { AlphaIs (on_left self.now) (on_right self.now) result }
+        ensures below { IfSome result (λ a. a < 48) }
+    {
+        (0..RANKS)
+            .rev()
+            .find(|&rank| self.left[rank] != self.right[rank])
     }
-    None
-}
 
-// The highest rank below a bound of which the left has more.
-fn highest_excess(left: &[u8; 48], right: &[u8; 48], bound: usize) -> Option<usize>
-    requires { bound ≤ 48 }
-    ensures { BetaIs (occurs left.now) (occurs right.now) (Some bound) result }
-{
-    for rank in (0..bound).rev() {
-        if left[rank] > right[rank] {
-            return Some(rank);
-        }
+    // The highest rank below a bound of which the left has more.
+    fn highest_excess(&self, bound: usize) -> Option<usize>
+        requires { bound ≤ 48 }
+        ensures { BetaIs (on_left self.now) (on_right self.now) (Some bound) result }
+    {
+        (0..bound)
+            .rev()
+            .find(|&rank| self.left[rank] > self.right[rank])
     }
-    None
-}
 
-// Whether the counts agree at every rank strictly between two.
-fn agree_between(left: &[u8; 48], right: &[u8; 48], low: usize, high: usize) -> bool
-    requires { (low < high) × (high ≤ 48) }
-    ensures { MatchBool result (Between (occurs left.now) (occurs right.now) low high) (Between (occurs left.now) (occurs right.now) low high → ⊥) }
-{
-    for rank in low + 1..high {
-        if left[rank] != right[rank] {
-            return false;
-        }
+    // Whether the counts agree at every rank strictly between two.
+    fn agree_between(&self, low: usize, high: usize) -> bool
+        requires { (low < high) × (high ≤ 48) }
+        ensures { IsTrue result ↔ Between (on_left self.now) (on_right self.now) low high }
+    {
+        (low + 1..high).all(|rank| self.left[rank] == self.right[rank])
     }
-    true
-}
 
-// Whether of the ranks below a bound the left has more at the highest whose counts differ.
-fn heavier_below(left: &[u8; 48], right: &[u8; 48], bound: usize) -> bool
-    requires { bound ≤ 48 }
-    ensures { MatchBool result (SigmaSays (occurs left.now) (occurs right.now) (Some bound)) (SigmaSays (occurs left.now) (occurs right.now) (Some bound) → ⊥) }
-{
-    weigh_counts(&left[..bound], &right[..bound]) == Weight::Heavier
-}
+    // Whether of the ranks below a bound the left has more at the highest whose counts differ.
+    fn is_heavier_below(&self, bound: usize) -> bool
+        requires { bound ≤ 48 }
+        ensures { IsTrue result ↔ SigmaSays (on_left self.now) (on_right self.now) (Some bound) }
+    {
+        let Counts { left, right } = *self;
+        let weight = weigh_counts(&left[..bound], &right[..bound]);
+        matches!(weight, Weight::Heavier)
+    }
 
-fn scan(left: &[u8; 48], right: &[u8; 48]) -> Marks
-    ensures { Marked (occurs left.now) (occurs right.now) result }
-{
-    let Some(alpha) = highest_difference(left, right) else {
-        return Marks {
-            alpha: None,
-            beta: None,
-            gamma: false,
-            sigma: false,
+    fn marks(&self) -> Marks
+        ensures { Marked (on_left self.now) (on_right self.now) result }
+    {
+        let alpha = self.highest_difference();
+        let Some(high) = alpha else {
+            return Marks::default();
         };
-    };
-    let Some(beta) = highest_excess(left, right, alpha) else {
-        return Marks {
-            alpha: Some(alpha),
-            beta: None,
-            gamma: false,
-            sigma: false,
+        let beta = self.highest_excess(high);
+        let Some(low) = beta else {
+            return Marks {
+                alpha,
+                ..Marks::default()
+            };
         };
-    };
-    Marks {
-        alpha: Some(alpha),
-        beta: Some(beta),
-        gamma: agree_between(left, right, beta, alpha),
-        sigma: heavier_below(left, right, beta),
+        Marks {
+            alpha,
+            beta,
+            gamma: self.agree_between(low, high),
+            sigma: self.is_heavier_below(low),
+        }
     }
-}
-
-fn only_marks(left: &[u8; 48], right: &[u8; 48]) -> Marks
-    ensures { OnlyMarks (occurs left.now) (occurs right.now) result }
-{
-    scan(left, right)
 }
 
 // The marks of two counts, which say how often each rank occurs on the left and on the right.
-pub fn mark(left: &[u8; 48], right: &[u8; 48]) -> Marks
+#[tactic(auto, using(crate::proofs::Finding::only_marks))]
+pub fn mark(left: &[u8; RANKS], right: &[u8; RANKS]) -> Marks
     ensures { OnlyMarks (occurs left.now) (occurs right.now) result }
 {
-    only_marks(left, right)
+    Counts { left, right }.marks()
 }

@@ -1,4 +1,3 @@
 pub mod Best
 pub mod OnePass
 pub mod Places
-pub mod Repeats

@@ -1,6 +1,5 @@
 -- Many rules: families in which every rank is supported, and what of given sets they leave.
-use Rattle.std.specs.Prelude.{ℕ, ◌<◌, List, sum_by, slice_index}
-use Rattle.std.specs.List.{AllByRecursion}
+use Rattle.std.specs.Prelude.{ℕ, ◌<◌, List, All, sum_by, slice_index}
 use Rattle.domains.specs.Sets.{In, size}
 use Rattle.rules.specs.Rules.{Rule, Names, Supported}
 
@@ -19,7 +18,7 @@ Steady F q = (c r : ℕ) → Names q c → In (F c) r → Supported F q c r
 -- each of n cells has a rank, and every rank is supported by the family in each rule that names its cell
 pub record Consistent (n : ℕ) (rules : List Rule) (F : ℕ → ℕ) : Type 0 where
   pub some : (c : ℕ) → c < n → (r : ℕ) × In (F c) r
-  pub each : AllByRecursion (Steady F) rules
+  pub each : All (Steady F) rules
 
 -- every rank that F has in one of n cells, G has too
 abbrev pub Inside : ℕ → (ℕ → ℕ) → (ℕ → ℕ) → Type 0

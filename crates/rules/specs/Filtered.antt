@@ -1,5 +1,5 @@
 -- What it is to filter the cells of a store by one rule.
-use Rattle.std.specs.Prelude.{◌≡◌, ℕ, ◌+◌, List, length}
+use Rattle.std.specs.Prelude.{◌≡◌, ℕ, ◌+◌, ◌↔◌, List, length}
 use Rattle.domains.specs.Sets.{In}
 use Rattle.rules.specs.Families.{family, total}
 use Rattle.rules.specs.Rows.{Fit, Unfit}
@@ -17,7 +17,7 @@ pub record Filtered (cs cs' : List ℕ) (q : Rule) (went : ℕ) : Type 0 where
   pub fit : Fit (length cs) q.left q.right
   pub choice : Meetable (family cs) q
   pub count : length cs' ≡ length cs
-  pub named : (c r : ℕ) → Names q c → (In (family cs' c) r → Supported (family cs) q c r) × (Supported (family cs) q c r → In (family cs' c) r)
+  pub named : (c r : ℕ) → Names q c → (In (family cs' c) r ↔ Supported (family cs) q c r)
   pub other : (c : ℕ) → (Names q c → ⊥) → family cs' c ≡ family cs c
   pub fewer : went + total cs' ≡ total cs
 

@@ -1,7 +1,12 @@
 -- When two rows of cells make a rule for n cells.
 use Rattle.std.specs.Prelude.{◌≡◌, ℕ, ◌<◌, ◌≤◌, List, ◌++◌, length, ◌≢◌, slice_index}
+use Rattle.rules.specs.declared.rows.Rows.{Rows}
 use Rattle.rules.specs.declared.faults.RowFault.{RowFault}
 use Rattle.rules.specs.declared.faults.RowFault.TheVariants.{BadLength, NoCell, NamedTwice}
+
+-- the cells of two rows: the left row's, and the right row's after them
+abbrev pub cells : Rows → List ℕ
+cells rows = rows.left.now ++ rows.right.now
 
 -- a row has 1 to 16 cells
 pub record RowSized (row : List ℕ) : Type 0 where

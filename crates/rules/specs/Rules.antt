@@ -1,5 +1,5 @@
 -- What a rule asks of a family of sets, one for each cell.
-use Rattle.std.specs.Prelude.{◌≡◌, ℕ, ◌<◌, List, ◌++◌, map, length, slice_index}
+use Rattle.std.specs.Prelude.{◌≡◌, ℕ, List, ◌++◌, map, Contains}
 use Rattle.domains.specs.Sets.{In}
 use Rattle.loads.specs.Kinds.{by_rank}
 use Rattle.loads.specs.Loads.{NotHeavier}
@@ -9,12 +9,9 @@ pub record Rule : Type 0 where
   pub left : List ℕ
   pub right : List ℕ
 
-abbrev pub Has : List ℕ → ℕ → Type 0
-Has cs c = (i : ℕ) × (i < length cs) × (slice_index cs i ≡ c)
-
 -- the rule names the cell c
 abbrev pub Names : Rule → ℕ → Type 0
-Names q c = Has (q.left ++ q.right) c
+Names q c = Contains (q.left ++ q.right) c
 
 -- a family gives each cell a mask; a choice takes one rank from the set of each cell that the rule names
 abbrev pub Chosen : (ℕ → ℕ) → Rule → (ℕ → ℕ) → Type 0

@@ -8,22 +8,18 @@ use stores::faults::WriteFault;
 #[derive(Clone, Copy, PartialEq, Eq, Debug)]
 pub enum RowFault {
     // a row has no cell, or more than 16
-    BadLength,
+    BadLength = 3,
     // a cell is not one of the store's
-    NoCell,
+    NoCell = 4,
     // a cell is named a second time, in one row or across both
-    NamedTwice,
+    NamedTwice = 5,
 }
 
-impl RowFault {
-    pub fn number(self) -> u8
-        ensures { result ≡ row_number self }
-    {
-        match self {
-            RowFault::BadLength => 3,
-            RowFault::NoCell => 4,
-            RowFault::NamedTwice => 5,
-        }
+impl From<RowFault> for u8 {
+    ghost from_gives = { λ fault number. number ≡ row_number fault };
+
+    fn from(fault: RowFault) -> u8 {
+        fault as u8
     }
 }
 
@@ -37,14 +33,14 @@ pub enum FilterFault {
     Store(WriteFault),
 }
 
-impl FilterFault {
-    pub fn number(self) -> u8
-        ensures { result ≡ filter_number self }
-    {
-        match self {
-            FilterFault::Rows(fault) => fault.number(),
+impl From<FilterFault> for u8 {
+    ghost from_gives = { λ fault number. number ≡ filter_number fault };
+
+    fn from(fault: FilterFault) -> u8 {
+        match fault {
+            FilterFault::Rows(why) => u8::from(why),
             FilterFault::NothingLeft => 9,
-            FilterFault::Store(fault) => fault.number(),
+            FilterFault::Store(why) => u8::from(why),
         }
     }
 }

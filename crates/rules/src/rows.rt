@@ -1,6 +1,6 @@
 // The rows of a rule, checked: a rule names 1 to 16 cells a row, all below n, none twice.
-ghost use Rattle.std.specs.Prelude.{◌≡◌, ℕ, ◌+◌, ◌<◌, ◌≤◌, ◌++◌, length, MatchBool, MatchResult, slice_index};
-ghost use Rattle.rules.specs.Rows.{RowSized, Below, Past, Repeat, Apart, Fit, Unfit};
+ghost use Rattle.std.specs.Prelude.{◌≡◌, ◌<◌, ◌≤◌, ◌↔◌, length, IsTrue, MatchBool, MatchResult, slice_index};
+ghost use Rattle.rules.specs.Rows.{RowSized, Below, Past, Repeat, Apart, Fit, Unfit, cells};
 
 use crate::faults::RowFault;
 
@@ -8,61 +8,57 @@ use crate::faults::RowFault;
 pub const LONGEST_ROW: usize = 16;
 
 fn is_sized(row: &[u8]) -> bool
-    ensures { MatchBool result (RowSized row.now) (RowSized row.now → ⊥) }
+    ensures { IsTrue result ↔ RowSized row.now }
 {
-    row.len() >= 1 && row.len() <= LONGEST_ROW
+    (1..=LONGEST_ROW).contains(&row.len())
 }
 
-// The cell at a place of the left row followed by the right.
-fn cell_at(left: &[u8], right: &[u8], place: usize) -> u8
-    requires { place < length left.now + length right.now }
-    ensures { result ≡ slice_index (left.now ++ right.now) place }
-{
-    if place < left.len() {
-        left[place]
-    } else {
-        right[place - left.len()]
+// The two rows of a rule. Their cells are the left row's, and the right row's after them.
+#[derive(Clone, Copy)]
+struct Rows<'a> {
+    left: &'a [u8],
+    right: &'a [u8],
+}
+
+impl Rows<'_> {
+    // Whether every cell is below n.
+    fn are_below(&self, n: usize) -> bool
+        ensures { MatchBool result (Below n (cells self.now)) (Past n (cells self.now)) }
+    {
+        self.left
+            .iter()
+            .chain(self.right)
+            .all(|cell| usize::from(*cell) < n)
     }
-}
 
-// Whether two places of the left row followed by the right hold the same cell.
-fn is_repeated(left: &[u8], right: &[u8]) -> bool
-    requires { (length left.now ≤ 16) × (length right.now ≤ 16) }
-    ensures { MatchBool result (Repeat (left.now ++ right.now)) (Apart (left.now ++ right.now)) }
-{
-    let count = left.len() + right.len();
-    let mut found = false;
-    'rows: for i in 0..count {
-        for j in 0..i {
-            if cell_at(left, right, i) == cell_at(left, right, j) {
-                found = true;
-                break 'rows;
+    fn cell_at(&self, place: usize) -> u8
+        requires { place < length (cells self.now) }
+        ensures { result ≡ slice_index (cells self.now) place }
+    {
+        if place < self.left.len() {
+            self.left[place]
+        } else {
+            self.right[place - self.left.len()]
+        }
+    }
+
+    // Whether two places hold the same cell: by loops over the places, which the project's plan wants left by their label.
+    fn has_repeat(&self) -> bool
+        requires { (length self.now.left.now ≤ 16) × (length self.now.right.now ≤ 16) }
+        ensures { MatchBool result (Repeat (cells self.now)) (Apart (cells self.now)) }
+    {
+        let count = self.left.len() + self.right.len();
+        let mut found = false;
+        'rows: for i in 0..count {
+            for j in 0..i {
+                if self.cell_at(i) == self.cell_at(j) {
+                    found = true;
+                    break 'rows;
+                }
             }
         }
+        found
     }
-    found
-}
-
-// Whether every cell of a row is below n.
-fn is_below(row: &[u8], n: usize) -> bool
-    ensures { MatchBool result (Below n row.now) (Past n row.now) }
-{
-    for cell in row {
-        if *cell as usize >= n {
-            return false;
-        }
-    }
-    true
-}
-
-// Whether every cell of both rows is below n.
-fn all_below(left: &[u8], right: &[u8], n: usize) -> bool
-    ensures { MatchBool result (Below n (left.now ++ right.now)) (Past n (left.now ++ right.now)) }
-{
-    if !is_below(left, n) {
-        return false;
-    }
-    is_below(right, n)
 }
 
 // Whether two rows make a rule for n cells.
@@ -72,10 +68,11 @@ pub fn check_rows(left: &[u8], right: &[u8], n: usize) -> Result<(), RowFault>
     if !is_sized(left) || !is_sized(right) {
         return Err(RowFault::BadLength);
     }
-    if !all_below(left, right, n) {
+    let rows = Rows { left, right };
+    if !rows.are_below(n) {
         return Err(RowFault::NoCell);
     }
-    if is_repeated(left, right) {
+    if rows.has_repeat() {
         return Err(RowFault::NamedTwice);
     }
     Ok(())

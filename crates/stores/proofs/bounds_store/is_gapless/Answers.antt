@@ -1,17 +1,12 @@
-use Rattle.std.proofs.Common.{◌≡◌, sym, ◌∙◌, subst}
-use Rattle.domains.specs.Sets.{run, Gapless}
-use Rattle.domains.proofs.Ranks.{gapless_run, run_gapless}
+use Rattle.std.proofs.Common.{◌≡◌, Bool, MatchBool, sym, ◌∙◌, subst}
+use Rattle.domains.specs.Sets.{Gapless}
+use Rattle.domains.proofs.Ranks.{run_gapless}
 use Rattle.stores.proofs.Cells.{when_equal}
 use Rattle.stores.proofs.bounds_store.is_gapless.Goals as goal
 
-pub returns-in-Some : goal.returns-in-Some
-returns-in-Some c =
+pub returns : goal.returns
+returns c =
     let m = c.args.part.mask in
-    let a = c.lowest.result in
-    let b = c.highest.result in
-    let is : c.in-Some.span.mask ≡ run a b = c.in-Some.ensures.value in
-    when_equal c.mask.result c.mask-in-Some.result (Gapless m) (Gapless m → ⊥)
-    (λ e. subst Gapless (sym is ∙ sym c.mask.ensures.value ∙ e ∙ c.mask-in-Some.ensures.value) (run_gapless a b))
-    (λ ne g. ne (c.mask.ensures.value ∙ is
-    ∙ gapless_run 48 m a b c.args.part.below c.lowest.ensures.within (λ k l i. c.lowest.ensures.least k (l, i)) c.highest.ensures.within (λ k l i. c.highest.ensures.most k (l, i)) g
-    ∙ sym c.mask-in-Some.ensures.value))
+    subst (λ (same : Bool). MatchBool same (Gapless m) (Gapless m → ⊥)) (sym c.eq.ensures) (when_equal c.domain.result.mask m (Gapless m) (Gapless m → ⊥)
+    (λ e. subst Gapless (sym c.domain.ensures ∙ e) (run_gapless c.around.result.low c.around.result.high))
+    (λ ne g. ne (c.domain.ensures ∙ c.around.ensures g)))
