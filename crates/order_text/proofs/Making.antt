@@ -22,4 +22,4 @@ all_listed {took = took} {f = f} {g = g} (Ok u) ns w all = λ plain ok.
     let d = w.1 in
     let same = sym (map_same w.0) ∙ items_from_drains w.0 (d.1.0, d.1.1, λ _. (d.0, d.1.2)) all in
     subst (λ (xs : List ℕ). HasWritten took f (listed xs) g) same (w.2 plain)
-all_listed (Err e) ns w all = λ plain ok. let no : ⊥ = cc in absurd no
+all_listed (Err e) ns w all = λ plain ok. absurd cc

@@ -29,7 +29,7 @@ pub bytes_of : (fs : List ℕ) → ((i : ℕ) → get_or fs i 0 < 256) → Bytes
 bytes_of fs h = All-from_get_or (λ b. b < 256) fs 0 (λ i _. h i)
 
 stays_from : (p : ℕ) (x : Parsed) → ended ≡ answer_at p x → onward_from p x ≡ p
-stays_from p (order s n) i = let z : ◌≡◌ {A = ℕ} 0 1 = cc in absurd (omega arith)
+stays_from p (order s n) i = absurd cc
 stays_from p nothing i = refl
 stays_from p cut i = refl
 stays_from p unknown i = refl
