@@ -1,9 +1,11 @@
 // The records that answer a file of orders: eight bytes for each order, and eight to close.
-ghost use Rattle.std.specs.Prelude.{◌≡◌, ◌∷◌};
+ghost use Rattle.std.specs.Prelude.{◌≡◌, ◌∷◌, Some, codes};
 ghost use Rattle.orders.specs.Answers.{reply, replied, reply_bytes, reply_of, closing_bytes, Fills};
 ghost use Rattle.orders.specs.Marks.{in_six};
 
 use super::values::Answer;
+use std::error::Error;
+use std::fmt;
 
 // The two bytes of each mark.
 const DONE: (u8, u8) = (b'O', b'K');
@@ -13,7 +15,7 @@ const REFUSED: (u8, u8) = (b'N', b'O');
 const CLOSING: (u8, u8) = (b'E', b'N');
 
 // What an order was answered: carried out, with its answer, or refused with a number.
-// An enum and no `Result`: these are the two kinds of record that a file has, and `write` and `read` are its methods.
+// Kept as an enum: a `Result<Answer, u8>` could have no methods `write` and `read` of its own.
 #[derive(Clone, Copy, PartialEq, Eq, Debug)]
 pub enum AnswerRecord {
     Done { answer: Answer },
@@ -21,6 +23,7 @@ pub enum AnswerRecord {
 }
 
 // How a play ended: 0 or the number that stopped it, and its place in the file.
+// The number is what stands in the record, and no `Option`, since the format gives 0 its meaning.
 #[derive(Clone, Copy, PartialEq, Eq, Debug)]
 pub struct ClosingRecord {
     pub number: u16,
@@ -30,6 +33,16 @@ pub struct ClosingRecord {
 // A record fills a part of eight bytes, and the part that was lent has another length.
 #[derive(Clone, Copy, PartialEq, Eq, Debug)]
 pub struct NotEightBytes;
+
+impl fmt::Display for NotEightBytes {
+    ghost output = { λ _. Some (codes "a record fills eight bytes") };
+
+    fn fmt<W: fmt::Write>(&self, f: &mut fmt::Formatter<W>) -> fmt::Result {
+        f.write_str("a record fills eight bytes")
+    }
+}
+
+impl Error for NotEightBytes {}
 
 // A mark, and the low six bytes of a number.
 fn six_bytes(mark: (u8, u8), value: u64) -> [u8; 8]

@@ -7,7 +7,7 @@ use super::kinds::{Order, OrderFault};
 use super::records::{Record, RecordFault, first_record};
 
 // Stands at a place of the file, where the next record begins.
-#[derive(Drop)]
+#[derive(Debug, Drop)]
 pub struct Reader<'a> {
     file: &'a [u8],
     place: usize,

@@ -1,13 +1,13 @@
 use Rattle.std.proofs.Common.{◌<◌, string_bytes, ◌∙◌, arith}
 use Rattle.orders.specs.Said.{said}
 use Rattle.orders.proofs.Ends.{falls}
-use Rattle.orders.proofs.Surveying.{bytes_of}
-use Rattle.order_text.proofs.Reading.{Leads, turn, at_end, at_fault}
+use Rattle.orders.proofs.Surveying.{Leads, bytes_of}
+use Rattle.order_text.proofs.Reading.{Lists, one_more, at_end, at_fault}
 use Rattle.order_text.proofs.listing.lines.Goals as goal
 
-step : (c : goal.In_ok-writeln-in-Ok-Some) → (c.loop-order.reader.place < c.next.new.self.place) × Leads c.args.file.now c.next.new.self.place (string_bytes c.writeln.new.self)
+step : (c : goal.In_ok-writeln-in-Ok-Some) → (c.loop-order.reader.place < c.next.new.self.place) × Leads c.args.file.now c.next.new.self.place (Lists c.next.new.self.place (string_bytes c.writeln.new.self))
 step c =
-    turn c.args.file.now c.loop-order.reader.file.now c.loop-order.reader.place c.next.new.self.place c.place-place.result
+    one_more c.args.file.now c.loop-order.reader.file.now c.loop-order.reader.place c.next.new.self.place c.place-place.result
     (string_bytes c.loop-order.text) (string_bytes c.writeln.new.self) (said c.in-Ok-Some.order)
     (bytes_of c.args.file.now (λ i. omega (arith, c.type_inv.file i))) c.loop-order.invariant.0
     (rw c.in-Ok-Some.field-0-is at c.in-Ok-Some.ensures.order) c.in-Ok-Some.ensures.place c.place-place.ensures
