@@ -1,9 +1,8 @@
 -- The listing of a file: a line for each order, and a closing line.
-use Rattle.std.specs.Prelude.{◌≡◌, ℕ, ◌+◌, ◌<◌, ◌≤◌, cond, List, [], ◌∷◌, ◌++◌, length, codes, decimal, ◌==◌}
-use Rattle.orders.specs.declared.surveys.Stop.{Stop}
-use Rattle.orders.specs.declared.surveys.Stop.TheVariants.{AtEnd, AtFault}
+use Rattle.std.specs.Prelude.{◌≡◌, ℕ, ◌+◌, ◌<◌, ◌≤◌, List, [], ◌∷◌, ◌++◌, length, codes, decimal, Ok, Err, Result}
+use Rattle.orders.specs.declared.kinds.OrderFault.{OrderFault}
 use Rattle.orders.specs.Said.{Said}
-use Rattle.orders.specs.Parse.{number_of, place_of}
+use Rattle.orders.specs.Parse.{number_of, place_of, fault_words}
 use Rattle.orders.specs.Format.{encode, Ending, whole, broken, Reads}
 use Rattle.order_text.specs.Words.{line_of}
 
@@ -11,10 +10,6 @@ use Rattle.order_text.specs.Words.{line_of}
 abbrev pub lines_from : ℕ → List Said → List ℕ
 lines_from p [] = []
 lines_from p (s ∷ ss) = (line_of p s ++ codes "\n") ++ lines_from (p + length (encode s)) ss
-
--- of the two faults that a file can have
-abbrev pub fault_words : ℕ → List ℕ
-fault_words k = cond (k == 14) (codes "fault 14, an unknown mark") (codes "fault 15, a record cut short")
 
 abbrev pub closing_of : ℕ → List ℕ → ℕ → List ℕ
 closing_of place what orders = (codes "at " ++ (decimal place ++ (codes ": " ++ what))) ++ (codes "; orders: " ++ decimal orders)
@@ -24,9 +19,9 @@ abbrev pub closing : Ending → ℕ → List ℕ
 closing (whole p) n = closing_of p (codes "end of the file") n
 closing (broken k p) n = closing_of p (fault_words k) n
 
-abbrev pub ending : Stop → Ending
-ending (AtEnd p) = whole p
-ending (AtFault f) = broken (number_of f) (place_of f)
+abbrev pub ending : Result ℕ OrderFault → Ending
+ending (Ok p) = whole p
+ending (Err f) = broken (number_of f) (place_of f)
 
 abbrev pub too_long : List ℕ
 too_long = codes "at 0: over 8192 bytes; playing this file would answer 13"

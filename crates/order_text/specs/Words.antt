@@ -1,15 +1,11 @@
 -- The words in which orders are listed.
-use Rattle.std.specs.Prelude.{ℕ, zero, suc, ◌/◌, ◌%◌, ◌^◌, cond, List, [], ◌∷◌, ◌++◌, codes, decimal, ◌==◌}
-use Rattle.std.specs.List.{flat_map}
+use Rattle.std.specs.Prelude.{ℕ, ◌/◌, ◌%◌, ◌^◌, List, [], ◌∷◌, ◌++◌, codes, decimal, ◌==◌}
+use Rattle.std.specs.List.{filter, flat_map, range_with_len}
 use Rattle.orders.specs.Said.{Said, lay_out, limit, post, start, undo, keep, read}
 
--- the ranks below k of a set, in rising order; rank r counts 2 ^ r
-abbrev pub ranks_below : ℕ → ℕ → List ℕ
-ranks_below zero set = []
-ranks_below (suc k) set = ranks_below k set ++ cond ((set / 2 ^ k % 2) == 1) (k ∷ []) []
-
-abbrev pub ranks_of : ℕ → List ℕ
-ranks_of set = ranks_below 48 set
+-- the ranks of a set, in rising order, of the 48 that there are; rank r counts 2 ^ r
+unfoldable pub ranks_of : ℕ → List ℕ
+ranks_of set = filter (λ r. (set / 2 ^ r % 2) == 1) (range_with_len 0 48)
 
 abbrev pub after_first : List ℕ → List ℕ
 after_first ns = flat_map (λ n. codes ", " ++ decimal n) ns

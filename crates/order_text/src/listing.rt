@@ -1,11 +1,11 @@
 // The listing of a file.
-ghost use Rattle.std.specs.Prelude.{◌≡◌, ◌<◌, ◌≤◌, length, IfOk, string_bytes};
-ghost use Rattle.order_text.specs.Listing.{fault_words, closing_of, closing, ending, Lines, Listed};
-ghost use Rattle.orders.specs.Parse.{number_of};
+ghost use Rattle.std.specs.Prelude.{◌≡◌, ◌<◌, ◌≤◌, length, Some, IfOk, string_bytes};
+ghost use Rattle.order_text.specs.Listing.{closing, ending, Lines, Listed};
 
-use crate::words::line;
-use orders::{OrderFault, Reader, Stop, Survey};
+use crate::words::Line;
+use orders::{Reader, Survey};
 use std::alloc::{AllocError, Global};
+use std::fmt;
 
 // A longer file is not played.
 pub const LONGEST: usize = 8192;
@@ -18,61 +18,31 @@ fn lines(heap: Global, file: &[u8]) -> Result<String, AllocError>
     let mut text = String::new(heap);
     loop {
         let place = reader.place();
-        let next = match reader.next() {
-            Ok(next) => next,
+        match reader.next() {
+            Ok(Some(order)) => writeln!(text, "{}", Line { place, order })?,
+            Ok(None) => return Ok(text),
             Err(_) => return Ok(text),
-        };
-        let Some(order) = next else {
-            return Ok(text);
-        };
-        let words = line(heap, place, order)?;
-        text.push_str(words.as_str())?;
-        text.push_str("\n")?;
-    }
-}
-
-fn fault_words(heap: Global, fault: OrderFault) -> Result<String, AllocError>
-    ensures { IfOk result (λ s. string_bytes s ≡ fault_words (number_of fault)) }
-{
-    match fault {
-        OrderFault::UnknownMark { place: _ } => {
-            String::from_str(heap, "fault 14, an unknown mark")
-        }
-        OrderFault::CutShort { place: _ } => {
-            String::from_str(heap, "fault 15, a record cut short")
         }
     }
 }
 
-// The closing line: a place, what is there, and how many orders came before it.
-fn closing_at(heap: Global, place: usize, what: &str, orders: usize) -> Result<String, AllocError>
-    ensures { IfOk result (λ s. string_bytes s ≡ closing_of place what.now orders) }
-{
-    let start = format!(in heap; "at {place}: {what}")?;
-    format!(in heap; "{start}; orders: {orders}")
-}
+// The closing line: where reading stopped, what is there, and how many orders came before it.
+#[derive(Clone, Copy)]
+struct Closing(Survey);
 
-fn closing_words(heap: Global, stop: Stop, orders: usize) -> Result<String, AllocError>
-    ensures { IfOk result (λ s. string_bytes s ≡ closing (ending stop) orders) }
-{
-    match stop {
-        Stop::AtEnd { place } => closing_at(heap, place, "end of the file", orders),
-        Stop::AtFault { fault } => {
-            let what = fault_words(heap, fault)?;
-            closing_at(heap, fault.place(), what.as_str(), orders)
+impl fmt::Display for Closing {
+    ghost output = { λ last. Some (closing (ending last.0.stop) last.0.orders) };
+
+    fn fmt<W: fmt::Write>(&self, f: &mut fmt::Formatter<W>) -> fmt::Result {
+        let Survey { orders, stop } = self.0;
+        match stop {
+            Ok(place) => write!(f, "at {place}: end of the file; orders: {orders}"),
+            Err(fault) => {
+                let place = fault.place();
+                write!(f, "at {place}: {fault}; orders: {orders}")
+            }
         }
     }
-}
-
-// Says of a file that it is too long to be played.
-fn too_long(heap: Global, file: &[u8]) -> Result<String, AllocError>
-    requires { 8192 < length file.now }
-    ensures { IfOk result (λ s. Listed file.now (string_bytes s)) }
-{
-    String::from_str(
-        heap,
-        "at 0: over 8192 bytes; playing this file would answer 13",
-    )
 }
 
 // The lines of the orders, and the closing line.
@@ -81,9 +51,7 @@ fn whole(heap: Global, file: &[u8]) -> Result<String, AllocError>
     ensures { IfOk result (λ s. Listed file.now (string_bytes s)) }
 {
     let mut text = lines(heap, file)?;
-    let survey = Survey::of(file);
-    let last = closing_words(heap, survey.stop, survey.orders)?;
-    text.push_str(last.as_str())?;
+    write!(text, "{}", Closing(Survey::of(file)))?;
     Ok(text)
 }
 
@@ -92,7 +60,10 @@ pub fn listing(heap: Global, file: &[u8]) -> Result<String, AllocError>
     ensures { IfOk result (λ s. Listed file.now (string_bytes s)) }
 {
     if file.len() > LONGEST {
-        return too_long(heap, file);
+        return String::from_str(
+            heap,
+            "at 0: over 8192 bytes; playing this file would answer 13",
+        );
     }
     whole(heap, file)
 }

@@ -1,87 +1,96 @@
 // The words of an order.
-ghost use Rattle.std.specs.Prelude.{◌≡◌, ◌++◌, IfOk, string_bytes, OnOk};
-ghost use Rattle.order_text.specs.Words.{ranks_of, after_first, listed, order_words, line_of};
-ghost use Rattle.orders.specs.Said.{said, lay_out, limit, post};
+ghost use Rattle.std.specs.Prelude.{ℕ, List, Some, OnOk};
+ghost use Rattle.std.specs.Iterator.{IsFinite, Drains};
+ghost use Rattle.std.specs.Fmt.{IsPlainFormatter, HasWritten};
+ghost use Rattle.order_text.specs.Words.{ranks_of, listed, order_words, line_of};
+ghost use Rattle.orders.specs.Said.{said};
 
 use orders::Order;
-use std::alloc::{AllocError, Global};
+use std::fmt;
 
-// The ranks of a set, in rising order.
-fn ranks(heap: Global, set: u64) -> Result<Vec<u8>, AllocError>
-    ensures { IfOk result (λ v. v.items ≡ ranks_of set) }
+// Writes numbers with commas between them, or the word `none`.
+fn write_list<W: fmt::Write, I: Iterator<Item = u8> + Drop>(
+    f: &mut fmt::Formatter<W>,
+    mut numbers: I,
+) -> fmt::Result
+    requires can { I.can_next numbers }
+    requires ends { IsFinite (I.remaining numbers) }
+    ensures { OnOk result ((xs : List ℕ) × Drains I.next_gives numbers xs
+        × (IsPlainFormatter f.old → HasWritten W.Write.write_str_gives f.old (listed xs) f.new)) }
 {
-    let mut found = Vec::new(heap);
-    for rank in 0..48u8 {
-        if (set >> rank) % 2 == 1 {
-            found.push(rank)?;
-        }
-    }
-    Ok(found)
-}
-
-// Writes each number behind a comma.
-fn after_first(heap: Global, text: &mut String, rest: &[u8]) -> Result<(), AllocError>
-    ensures { OnOk result (string_bytes text.new ≡ string_bytes text.old ++ after_first rest.now) }
-{
-    for number in rest {
-        let item = format!(in heap; ", {number}")?;
-        text.push_str(item.as_str())?;
+    let Some(first) = numbers.next() else {
+        return f.write_str("none");
+    };
+    write!(f, "{first}")?;
+    for number in numbers {
+        write!(f, ", {number}")?;
     }
     Ok(())
 }
 
-// Numbers with commas between them.
-fn list(heap: Global, numbers: &[u8]) -> Result<String, AllocError>
-    ensures { IfOk result (λ s. string_bytes s ≡ listed numbers.now) }
-{
-    let [first, rest @ ..] = numbers else {
-        return String::from_str(heap, "none");
-    };
-    let mut text = format!(in heap; "{first}")?;
-    after_first(heap, &mut text, rest)?;
-    Ok(text)
+// Numbers as a list in words.
+#[derive(Clone, Copy)]
+struct Numbers<'a>(&'a [u8]);
+
+impl fmt::Display for Numbers<'_> {
+    ghost output = { λ numbers. Some (listed numbers.0.now) };
+
+    fn fmt<W: fmt::Write>(&self, f: &mut fmt::Formatter<W>) -> fmt::Result {
+        write_list(f, self.0.iter().copied())
+    }
 }
 
-fn lay_out_words(heap: Global, cells: u8, width: u8) -> Result<String, AllocError>
-    ensures { IfOk result (λ s. string_bytes s ≡ order_words (lay_out cells width)) }
-{
-    format!(in heap; "lay out: cells {cells}, grades {width}")
+// The ranks of a set, in rising order, as a list in words.
+#[derive(Clone, Copy)]
+struct Ranks(u64);
+
+impl fmt::Display for Ranks {
+    ghost output = { λ ranks. Some (listed (ranks_of ranks.0)) };
+
+    fn fmt<W: fmt::Write>(&self, f: &mut fmt::Formatter<W>) -> fmt::Result {
+        let Ranks(set) = *self;
+        write_list(f, (0..48u8).filter(|rank| (set >> *rank) % 2 == 1))
+    }
 }
 
-fn limit_words(heap: Global, cell: u8, set: u64) -> Result<String, AllocError>
-    ensures { IfOk result (λ s. string_bytes s ≡ order_words (limit cell set)) }
-{
-    let found = ranks(heap, set)?;
-    let ranks = list(heap, found.as_slice())?;
-    format!(in heap; "limit cell {cell} to ranks {ranks}")
-}
+// What an order says in words.
+#[derive(Clone, Copy)]
+struct Words<'a>(Order<'a>);
 
-fn post_words(heap: Global, left: &[u8], right: &[u8]) -> Result<String, AllocError>
-    ensures { IfOk result (λ s. string_bytes s ≡ order_words (post left.now right.now)) }
-{
-    let left = list(heap, left)?;
-    let right = list(heap, right)?;
-    format!(in heap; "post a rule: left cells {left}; right cells {right}")
-}
+impl fmt::Display for Words<'_> {
+    ghost output = { λ words. Some (order_words (said words.0)) };
 
-fn order_words(heap: Global, order: Order<'_>) -> Result<String, AllocError>
-    ensures { IfOk result (λ s. string_bytes s ≡ order_words (said order.entry)) }
-{
-    match order {
-        Order::LayOut { cells, width } => lay_out_words(heap, cells, width),
-        Order::Limit { cell, set } => limit_words(heap, cell, set),
-        Order::Post { left, right } => post_words(heap, left, right),
-        Order::Open => String::from_str(heap, "open a trial"),
-        Order::Undo { trial } => format!(in heap; "undo trial {trial}"),
-        Order::Keep { trial } => format!(in heap; "keep trial {trial}"),
-        Order::Read { cell } => format!(in heap; "read cell {cell}"),
+    fn fmt<W: fmt::Write>(&self, f: &mut fmt::Formatter<W>) -> fmt::Result {
+        match self.0 {
+            Order::LayOut { cells, width } => write!(f, "lay out: cells {cells}, grades {width}"),
+            Order::Limit { cell, set } => {
+                let ranks = Ranks(set);
+                write!(f, "limit cell {cell} to ranks {ranks}")
+            }
+            Order::Post { left, right } => {
+                let (left, right) = (Numbers(left), Numbers(right));
+                write!(f, "post a rule: left cells {left}; right cells {right}")
+            }
+            Order::Open => f.write_str("open a trial"),
+            Order::Undo { trial } => write!(f, "undo trial {trial}"),
+            Order::Keep { trial } => write!(f, "keep trial {trial}"),
+            Order::Read { cell } => write!(f, "read cell {cell}"),
+        }
     }
 }
 
 // The line of an order that stands at a place of the file.
-pub(crate) fn line(heap: Global, place: usize, order: Order<'_>) -> Result<String, AllocError>
-    ensures { IfOk result (λ s. string_bytes s ≡ line_of place (said order.entry)) }
-{
-    let words = order_words(heap, order)?;
-    format!(in heap; "at {place}: {words}")
+#[derive(Clone, Copy)]
+pub(crate) struct Line<'a> {
+    pub(crate) place: usize,
+    pub(crate) order: Order<'a>,
+}
+
+impl fmt::Display for Line<'_> {
+    ghost output = { λ line. Some (line_of line.place (said line.order)) };
+
+    fn fmt<W: fmt::Write>(&self, f: &mut fmt::Formatter<W>) -> fmt::Result {
+        let Line { place, order } = *self;
+        write!(f, "at {place}: {}", Words(order))
+    }
 }

@@ -49,9 +49,9 @@ here fs p x h e =
 -- a reader that finds an order goes on
 on_from : (p e : ℕ) (s : Said) (x : Parsed) → Within p e x → answer_at p x ≡ found s → p < onward_from p x
 on_from p e s (order t n) h i = omega (arith, h.0)
-on_from p e s nothing h i = let z : ◌≡◌ {A = ℕ} 0 1 = cc in absurd (omega arith)
-on_from p e s cut h i = let z : ◌≡◌ {A = ℕ} 0 1 = cc in absurd (omega arith)
-on_from p e s unknown h i = let z : ◌≡◌ {A = ℕ} 0 1 = cc in absurd (omega arith)
+on_from p e s nothing h i = absurd cc
+on_from p e s cut h i = absurd cc
+on_from p e s unknown h i = absurd cc
 
 pub advances : (fs : List ℕ) (p : ℕ) (s : Said) → next_of fs p ≡ found s → p < place_after fs p
 unfolding parse

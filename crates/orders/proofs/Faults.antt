@@ -29,8 +29,8 @@ mark_known (keep t) bs = rw (two_up 75 84 bs) (fields_known (ltb (length bs) 4) 
 mark_known (read n) bs = rw (two_up 82 68 bs) (fields_known (ltb (length bs) 1) _ _)
 
 two_from_unknown : (bs : List ℕ) → record_of bs ≡ unknown → 2 ≤ length bs
-two_from_unknown [] e = let z : ◌≡◌ {A = ℕ} 0 1 = cc in absurd (omega arith)
-two_from_unknown (a ∷ []) e = let z : ◌≡◌ {A = ℕ} 0 1 = cc in absurd (omega arith)
+two_from_unknown [] e = absurd cc
+two_from_unknown (a ∷ []) e = absurd cc
 two_from_unknown (a ∷ b ∷ bs) e = omega arith
 
 pub strange_from_unknown : (bs : List ℕ) → record_of bs ≡ unknown → Strange bs
@@ -128,12 +128,11 @@ begins bs zs s n e fits is len =
     let a : take n bs ≡ encode s = sym (take-append-le n bs zs more) ∙ front in
     let b : bs ≡ encode s ++ drop n bs = sym (take-append-drop n bs) ∙ ap (λ (l : List ℕ). l ++ drop n bs) a in
     let o : record_of bs ≡ order s (length (encode s)) = ap record_of b ∙ reads_one s (drop n bs) fits in
-    let z : ◌≡◌ {A = ℕ} 0 1 = cc in
-    absurd (omega arith))
+    absurd cc)
     (cases_lt (length bs) n)
 
 pub beginning_from_cut : (bs : List ℕ) → Bytes bs → record_of bs ≡ cut → (length bs ≡ 1) ⊎ ((2 ≤ length bs) × Beginning bs)
-beginning_from_cut [] h e = let z : ◌≡◌ {A = ℕ} 0 1 = cc in absurd (omega arith)
+beginning_from_cut [] h e = absurd cc
 beginning_from_cut (a ∷ []) h e = inl refl
 beginning_from_cut (a ∷ b ∷ bs) h e =
     let all : Bytes ((a ∷ b ∷ bs) ++ zeros) = All-append (λ x. x < 256) (a ∷ b ∷ bs) zeros h zeros_bytes in
@@ -167,7 +166,7 @@ marked_met a b bs =
 
 pub none_from_none : (bs : List ℕ) → record_of bs ≡ nothing → length bs ≡ 0
 none_from_none [] e = refl
-none_from_none (a ∷ []) e = let z : ◌≡◌ {A = ℕ} 0 1 = cc in absurd (omega arith)
+none_from_none (a ∷ []) e = absurd cc
 none_from_none (a ∷ b ∷ bs) e = absurd (subst Met (sym (two_up a b bs) ∙ e) (marked_met a b bs))
 
 -- a beginning is cut short

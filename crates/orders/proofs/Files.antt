@@ -19,9 +19,9 @@ taken_from fs p s (order t n) w e =
     let on : drop n (drop p fs) ≡ drop (p + n) fs = drop-drop n p fs in
     let is : Taken fs p t (p + n) = (w.0, w.1 ∙ ap (λ (l : List ℕ). encode t ++ l) on, ap (λ (k : ℕ). p + k) w.2) in
     subst (λ (v : Said). Taken fs p v (p + n)) same is
-taken_from fs p s nothing w e = let z : ◌≡◌ {A = ℕ} 0 1 = cc in absurd (omega arith)
-taken_from fs p s cut w e = let z : ◌≡◌ {A = ℕ} 0 1 = cc in absurd (omega arith)
-taken_from fs p s unknown w e = let z : ◌≡◌ {A = ℕ} 0 1 = cc in absurd (omega arith)
+taken_from fs p s nothing w e = absurd cc
+taken_from fs p s cut w e = absurd cc
+taken_from fs p s unknown w e = absurd cc
 
 pub taken : (fs : List ℕ) (p : ℕ) (s : Said) → Bytes fs → next_of fs p ≡ found s → Taken fs p s (place_after fs p)
 unfolding parse
@@ -35,10 +35,10 @@ takes fs p s rest h e =
 
 -- the end of a file
 end_from : (fs : List ℕ) (p : ℕ) (x : Parsed) → record_of (drop p fs) ≡ x → answer_at p x ≡ ended → length (drop p fs) ≡ 0
-end_from fs p (order s n) i e = let z : ◌≡◌ {A = ℕ} 0 1 = cc in absurd (omega arith)
+end_from fs p (order s n) i e = absurd cc
 end_from fs p nothing i e = none_from_none (drop p fs) i
-end_from fs p cut i e = let z : ◌≡◌ {A = ℕ} 0 1 = cc in absurd (omega arith)
-end_from fs p unknown i e = let z : ◌≡◌ {A = ℕ} 0 1 = cc in absurd (omega arith)
+end_from fs p cut i e = absurd cc
+end_from fs p unknown i e = absurd cc
 
 at_end : (fs : List ℕ) (p : ℕ) → next_of fs p ≡ ended → length (drop p fs) ≡ 0
 unfolding parse
@@ -50,8 +50,8 @@ ends fs p e = ap (λ (l : List ℕ). answer_at p (record_of l)) e
 
 -- a fault
 fault_from : (fs : List ℕ) (p k q : ℕ) (x : Parsed) → Bytes (drop p fs) → record_of (drop p fs) ≡ x → answer_at p x ≡ faulty k q → (q ≡ p) × Faulty k (drop p fs)
-fault_from fs p k q (order s n) h i e = let z : ◌≡◌ {A = ℕ} 0 1 = cc in absurd (omega arith)
-fault_from fs p k q nothing h i e = let z : ◌≡◌ {A = ℕ} 0 1 = cc in absurd (omega arith)
+fault_from fs p k q (order s n) h i e = absurd cc
+fault_from fs p k q nothing h i e = absurd cc
 fault_from fs p k q cut h i e = let a : q ≡ p = cc in let b : k ≡ 15 = cc in (a, inr (b, beginning_from_cut (drop p fs) h i))
 fault_from fs p k q unknown h i e = let a : q ≡ p = cc in let b : k ≡ 14 = cc in (a, inl (b, strange_from_unknown (drop p fs) i))
 
@@ -147,13 +147,13 @@ broken_written fs ss k p h fits is within f =
 -- one reading from each place
 one : (fs : List ℕ) (p : ℕ) (ss ts : List Said) (d e : Ending) → Reads fs p ss d → Reads fs p ts e → (ss ≡ ts) × (d ≡ e)
 one fs p [] [] d e (done n) (done m) = (refl, refl)
-one fs p [] [] d e (done n) (fault m) = let z : ◌≡◌ {A = ℕ} 0 1 = cc in absurd (omega arith)
-one fs p [] [] d e (fault n) (done m) = let z : ◌≡◌ {A = ℕ} 0 1 = cc in absurd (omega arith)
+one fs p [] [] d e (done n) (fault m) = absurd cc
+one fs p [] [] d e (fault n) (done m) = absurd cc
 one fs p [] [] d e (fault n) (fault m) = let same : d ≡ e = cc in (refl, same)
-one fs p [] (t ∷ ts) d e (done n) (more m s) = let z : ◌≡◌ {A = ℕ} 0 1 = cc in absurd (omega arith)
-one fs p [] (t ∷ ts) d e (fault n) (more m s) = let z : ◌≡◌ {A = ℕ} 0 1 = cc in absurd (omega arith)
-one fs p (s ∷ ss) [] d e (more n r) (done m) = let z : ◌≡◌ {A = ℕ} 0 1 = cc in absurd (omega arith)
-one fs p (s ∷ ss) [] d e (more n r) (fault m) = let z : ◌≡◌ {A = ℕ} 0 1 = cc in absurd (omega arith)
+one fs p [] (t ∷ ts) d e (done n) (more m s) = absurd cc
+one fs p [] (t ∷ ts) d e (fault n) (more m s) = absurd cc
+one fs p (s ∷ ss) [] d e (more n r) (done m) = absurd cc
+one fs p (s ∷ ss) [] d e (more n r) (fault m) = absurd cc
 one fs p (s ∷ ss) (t ∷ ts) d e (more n r) (more m q) =
     let i = one fs (place_after fs p) ss ts d e r q in
     let first : s ≡ t = cc in

@@ -1,10 +1,11 @@
 -- What the bytes of a file say, record by record.
-use Rattle.std.specs.Prelude.{ℕ, ◌+◌, cond, List, length, take, drop, Some, None, Ok, Err, Option, Result, ◌==◌, nat_lt, slice_index}
+use Rattle.std.specs.Prelude.{ℕ, ◌+◌, cond, List, codes, length, take, drop, Some, None, Ok, Err, Option, Result, ◌==◌, nat_lt, slice_index}
 use Rattle.orders.specs.declared.kinds.Order.{Order}
 use Rattle.orders.specs.declared.kinds.OrderFault.{OrderFault}
 use Rattle.orders.specs.declared.kinds.OrderFault.TheVariants.{UnknownMark, CutShort}
 use Rattle.orders.specs.declared.records.Record.{Record}
-use Rattle.orders.specs.declared.records.Record.TheVariants.{Whole, Nothing, Cut, Unknown}
+use Rattle.orders.specs.declared.records.RecordFault.{RecordFault}
+use Rattle.orders.specs.declared.records.RecordFault.TheVariants.{Cut, Unknown}
 use Rattle.orders.specs.Said.{Said, said, lay_out, limit, post, start, undo, keep, read}
 use Rattle.orders.specs.Marks.{LO, LI, PR, OT, UT, KT, RD, is_mark, four, six}
 
@@ -92,12 +93,30 @@ abbrev pub place_of : OrderFault → ℕ
 place_of (UnknownMark p) = p
 place_of (CutShort p) = p
 
--- what the code's values say
-abbrev pub parsed : Record → Parsed
-parsed (Whole o n) = order (said o) n
-parsed Nothing = nothing
-parsed Cut = cut
-parsed Unknown = unknown
+-- the words of a fault's number, of the two faults that a file can have
+abbrev pub fault_words : ℕ → List ℕ
+fault_words k = cond (k == 14) (codes "fault 14, an unknown mark") (codes "fault 15, a record cut short")
+
+-- what the code's values say: a record, one of a known mark, and one that may begin anywhere
+abbrev pub whole_of : Record → Parsed
+whole_of r = order (said r.order) r.length
+
+abbrev pub fault_of : RecordFault → Parsed
+fault_of Cut = cut
+fault_of Unknown = unknown
+
+abbrev pub fields : Option Record → Parsed
+fields (Some r) = whole_of r
+fields None = cut
+
+abbrev pub parsed_mark : Result Record RecordFault → Parsed
+parsed_mark (Ok r) = whole_of r
+parsed_mark (Err f) = fault_of f
+
+abbrev pub parsed : Result (Option Record) RecordFault → Parsed
+parsed (Ok (Some r)) = whole_of r
+parsed (Ok None) = nothing
+parsed (Err f) = fault_of f
 
 abbrev pub told : Result (Option Order) OrderFault → Next
 told (Ok None) = ended

@@ -13,5 +13,5 @@ pub use answers::{AnswerRecord, ClosingRecord, NotEightBytes};
 pub use kinds::{Order, OrderFault};
 pub use laws::format_stands;
 pub use reading::Reader;
-pub use surveys::{Stop, Survey};
+pub use surveys::Survey;
 pub use values::Answer;

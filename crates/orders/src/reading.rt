@@ -4,10 +4,10 @@ ghost use Rattle.orders.specs.Parse.{parse, parsed, told, next_of, place_after};
 ghost use Rattle.orders.specs.Within.{Within};
 
 use super::kinds::{Order, OrderFault};
-use super::records::{Record, first_record};
+use super::records::{Record, RecordFault, first_record};
 
 // Stands at a place of the file, where the next record begins.
-#[derive(Drop)]
+#[derive(Debug, Drop)]
 pub struct Reader<'a> {
     file: &'a [u8],
     place: usize,
@@ -32,7 +32,8 @@ impl<'a> Reader<'a> {
     }
 
     // What stands at the reader's place; a whole record ends within the file.
-    fn here(&self) -> Record<'a>
+    #[tactic(auto, using(std::proofs::lemmas::List::take_rest, crate::proofs::Ends::here), unfolding(crate::specs::Parse::parse))]
+    fn here(&self) -> Result<Option<Record<'a>>, RecordFault>
         ensures stands { parsed result ≡ parse self.now.file.now self.now.place }
         ensures within { Within self.now.place (length self.now.file.now) (parsed result) }
     {
@@ -47,14 +48,14 @@ impl<'a> Reader<'a> {
         ensures file { self.new.file.now ≡ self.old.file.now }
     {
         let place = self.place;
-        match self.here() {
-            Record::Whole { order, length } => {
-                self.place = place + length;
-                Ok(Some(order))
-            }
-            Record::Nothing => Ok(None),
-            Record::Cut => Err(OrderFault::CutShort { place }),
-            Record::Unknown => Err(OrderFault::UnknownMark { place }),
-        }
+        let record = self.here().map_err(|fault| match fault {
+            RecordFault::Cut => OrderFault::CutShort { place },
+            RecordFault::Unknown => OrderFault::UnknownMark { place },
+        })?;
+        let Some(Record { order, length }) = record else {
+            return Ok(None);
+        };
+        self.place = place + length;
+        Ok(Some(order))
     }
 }

@@ -4,18 +4,11 @@ ghost use Rattle.orders.specs.Surveyed.{Surveyed};
 use super::kinds::OrderFault;
 use super::reading::Reader;
 
-// Where reading stopped: at the end of the file, or at a fault.
-#[derive(Clone, Copy)]
-pub enum Stop {
-    AtEnd { place: usize },
-    AtFault { fault: OrderFault },
-}
-
-// How many orders a file has before it stops, and where that is.
-#[derive(Clone, Copy)]
+// How many orders a file has before it stops, and where that is: the place of the end, or a fault.
+#[derive(Clone, Copy, PartialEq, Eq, Debug)]
 pub struct Survey {
     pub orders: usize,
-    pub stop: Stop,
+    pub stop: Result<usize, OrderFault>,
 }
 
 impl Survey {
@@ -25,20 +18,13 @@ impl Survey {
     {
         let mut reader = Reader::new(file);
         let mut orders = 0;
-        loop {
-            let next = match reader.next() {
-                Ok(next) => next,
-                Err(fault) => {
-                    let stop = Stop::AtFault { fault };
-                    return Survey { orders, stop };
-                }
-            };
-            let Some(_order) = next else {
-                let place = reader.place();
-                let stop = Stop::AtEnd { place };
-                return Survey { orders, stop };
-            };
-            orders += 1;
-        }
+        let stop = loop {
+            match reader.next() {
+                Ok(Some(_)) => orders += 1,
+                Ok(None) => break Ok(reader.place()),
+                Err(fault) => break Err(fault),
+            }
+        };
+        Survey { orders, stop }
     }
 }

@@ -32,4 +32,23 @@ mod listings {
         );
         Ok(())
     }
+
+    #[test]
+    fn orders_in_words(rt: HostRuntime) -> Result<(), Fail> {
+        let heap = rt.alloc();
+        let limits = listing(
+            heap,
+            b"LI\x04\x80\x00\x00\x00\x00\x05LI\x05\x00\x00\x00\x00\x00\x00LO\x02\x03X",
+        )?;
+        assert_eq!(rt;
+            limits.as_str(),
+            "at 0: limit cell 4 to ranks 0, 2, 47\nat 9: limit cell 5 to ranks none\nat 18: lay out: cells 2, grades 3\nat 22: fault 15, a record cut short; orders: 3"
+        );
+        let trials = listing(heap, b"OTUT\x00\x00\x00\x01KT\x00\x00\x01\x00RD\xff")?;
+        assert_eq!(rt;
+            trials.as_str(),
+            "at 0: open a trial\nat 2: undo trial 1\nat 8: keep trial 256\nat 14: read cell 255\nat 17: end of the file; orders: 4"
+        );
+        Ok(())
+    }
 }

@@ -1,184 +1,204 @@
-use orders::{Answer, AnswerRecord, ClosingRecord, Order, OrderFault, Reader, Stop, Survey};
+use orders::{
+    Answer, AnswerRecord, ClosingRecord, NotEightBytes, Order, OrderFault, Reader, Survey,
+};
 use std::process::Abort;
 use std::test::Fail;
 
-// What `next` said, in three numbers: a letter for the case, and two of its fields.
-fn said(next: Result<Option<Order<'_>>, OrderFault>) -> (u8, u64, u64) {
-    match next {
-        Ok(None) => (b'-', 0, 0),
-        Ok(Some(order)) => said_order(order),
-        Err(fault) => (b'!', u64::from(fault.number()), fault.place() as u64),
-    }
-}
+// What `next` gives.
+type Next<'a> = Result<Option<Order<'a>>, OrderFault>;
 
-fn said_order(order: Order<'_>) -> (u8, u64, u64) {
-    match order {
-        Order::LayOut { cells, width } => (b'L', u64::from(cells), u64::from(width)),
-        Order::Limit { cell, set } => (b'I', u64::from(cell), set),
-        Order::Post { left, right } => (b'P', left.len() as u64, right.len() as u64),
-        Order::Open => (b'O', 0, 0),
-        Order::Undo { trial } => (b'U', u64::from(trial), 0),
-        Order::Keep { trial } => (b'K', u64::from(trial), 0),
-        Order::Read { cell } => (b'R', u64::from(cell), 0),
-    }
-}
+const CUT_SHORT: OrderFault = OrderFault::CutShort { place: 0 };
+
+const UNKNOWN_MARK: OrderFault = OrderFault::UnknownMark { place: 0 };
 
 // The first record of a file reads so, and the reader then stands at `place`.
-fn reads(rt: &impl Abort, file: &[u8], as_said: (u8, u64, u64), place: usize) {
+fn reads(rt: &impl Abort, file: &[u8], next: Next<'_>, place: usize) {
     let mut reader = Reader::new(file);
-    assert_eq!(rt; said(reader.next()), as_said);
+    assert_eq!(rt; reader.next(), next);
     assert_eq!(rt; reader.place(), place);
 }
 
 // A record that is whole, read whole and cut at every length.
-fn reads_whole_and_cut(rt: &impl Abort, record: &[u8], as_said: (u8, u64, u64)) {
-    reads(rt, record, as_said, record.len());
+fn reads_whole_and_cut(rt: &impl Abort, record: &[u8], order: Order<'_>) {
+    reads(rt, record, Ok(Some(order)), record.len());
     for length in 1..record.len() {
-        reads(rt, &record[0..length], (b'!', 15, 0), 0);
+        reads(rt, &record[0..length], Err(CUT_SHORT), 0);
     }
 }
 
 #[test]
 fn every_kind_whole_and_cut(rt: HostRuntime) {
-    reads_whole_and_cut(&rt, b"LO\x02\x03", (b'L', 2, 3));
-    reads_whole_and_cut(&rt, b"LI\x00\x00\x00\x00\x00\x00\x06", (b'I', 0, 6));
-    reads_whole_and_cut(
-        &rt,
-        b"LI\xff\x01\x02\x03\x04\x05\x06",
-        (b'I', 255, 1108152157446),
-    );
-    reads_whole_and_cut(&rt, b"PR\x02\x01\x00\x03\x05", (b'P', 2, 1));
-    reads_whole_and_cut(&rt, b"PR\x00\x00", (b'P', 0, 0));
-    reads_whole_and_cut(&rt, b"OT", (b'O', 0, 0));
-    reads_whole_and_cut(&rt, b"UT\x00\x00\x00\x01", (b'U', 1, 0));
-    reads_whole_and_cut(&rt, b"KT\x01\x02\x03\x04", (b'K', 16909060, 0));
-    reads_whole_and_cut(&rt, b"RD\xff", (b'R', 255, 0));
+    let lay_out = Order::LayOut { cells: 2, width: 3 };
+    reads_whole_and_cut(&rt, b"LO\x02\x03", lay_out);
+    let limit = Order::Limit { cell: 0, set: 6 };
+    reads_whole_and_cut(&rt, b"LI\x00\x00\x00\x00\x00\x00\x06", limit);
+    let large = Order::Limit {
+        cell: 255,
+        set: 1108152157446,
+    };
+    reads_whole_and_cut(&rt, b"LI\xff\x01\x02\x03\x04\x05\x06", large);
+    let post = Order::Post {
+        left: &[0, 3],
+        right: &[5],
+    };
+    reads_whole_and_cut(&rt, b"PR\x02\x01\x00\x03\x05", post);
+    let empty = Order::Post {
+        left: &[],
+        right: &[],
+    };
+    reads_whole_and_cut(&rt, b"PR\x00\x00", empty);
+    reads_whole_and_cut(&rt, b"OT", Order::Open);
+    reads_whole_and_cut(&rt, b"UT\x00\x00\x00\x01", Order::Undo { trial: 1 });
+    let keep = Order::Keep { trial: 16909060 };
+    reads_whole_and_cut(&rt, b"KT\x01\x02\x03\x04", keep);
+    reads_whole_and_cut(&rt, b"RD\xff", Order::Read { cell: 255 });
 }
 
 #[test]
 fn marks_lone_bytes_and_the_end(rt: HostRuntime) {
-    reads(&rt, b"", (b'-', 0, 0), 0);
-    reads(&rt, b"L", (b'!', 15, 0), 0);
-    reads(&rt, b"X", (b'!', 15, 0), 0);
-    reads(&rt, b"XX", (b'!', 14, 0), 0);
-    reads(&rt, b"lo\x02\x03", (b'!', 14, 0), 0);
-    reads(&rt, b"OL", (b'!', 14, 0), 0);
-    reads(&rt, b"LX", (b'!', 14, 0), 0);
-    reads(&rt, b"XO", (b'!', 14, 0), 0);
-    reads(&rt, b"OK\x00\x00\x00\x00\x00\x00", (b'!', 14, 0), 0);
-    reads(&rt, b"OTX", (b'O', 0, 0), 2);
+    reads(&rt, b"", Ok(None), 0);
+    reads(&rt, b"L", Err(CUT_SHORT), 0);
+    reads(&rt, b"X", Err(CUT_SHORT), 0);
+    reads(&rt, b"XX", Err(UNKNOWN_MARK), 0);
+    reads(&rt, b"lo\x02\x03", Err(UNKNOWN_MARK), 0);
+    reads(&rt, b"OL", Err(UNKNOWN_MARK), 0);
+    reads(&rt, b"LX", Err(UNKNOWN_MARK), 0);
+    reads(&rt, b"XO", Err(UNKNOWN_MARK), 0);
+    let answer = b"OK\x00\x00\x00\x00\x00\x00";
+    reads(&rt, answer, Err(UNKNOWN_MARK), 0);
+    reads(&rt, b"OTX", Ok(Some(Order::Open)), 2);
 }
 
 #[test]
-fn rows_are_parts_of_the_file(rt: HostRuntime) -> Result<(), Fail> {
-    let mut reader = Reader::new(b"PR\x02\x01\x07\x08\x09RD\x01");
-    let Ok(Some(Order::Post { left, right })) = reader.next() else {
-        return Err(Fail::new("no post"));
-    };
-    assert!(rt; left.len() == 2 && right.len() == 1);
-    assert_eq!(rt; (left[0], left[1], right[0]), (7, 8, 9));
-    assert_eq!(rt; reader.place(), 7);
-    assert_eq!(rt; said(reader.next()), (b'R', 1, 0));
+fn faults_have_numbers_and_words(rt: HostRuntime) -> Result<(), Fail> {
+    assert_eq!(rt; u8::from(UNKNOWN_MARK), 14);
+    assert_eq!(rt; u8::from(CUT_SHORT), 15);
+    assert_eq!(rt; UNKNOWN_MARK.place(), 0);
+    let heap = rt.alloc();
+    let unknown = UNKNOWN_MARK.to_string(heap)?;
+    assert_eq!(rt; unknown.as_str(), "fault 14, an unknown mark");
+    let cut = CUT_SHORT.to_string(heap)?;
+    assert_eq!(rt; cut.as_str(), "fault 15, a record cut short");
     Ok(())
+}
+
+#[test]
+fn rows_are_parts_of_the_file(rt: HostRuntime) {
+    let mut reader = Reader::new(b"PR\x02\x01\x07\x08\x09RD\x01");
+    let post = Order::Post {
+        left: &[7, 8],
+        right: &[9],
+    };
+    assert_eq!(rt; reader.next(), Ok(Some(post)));
+    assert_eq!(rt; reader.place(), 7);
+    assert_eq!(rt; reader.next(), Ok(Some(Order::Read { cell: 1 })));
 }
 
 #[test]
 fn the_largest_rows(rt: HostRuntime) {
+    let zeros = [0u8; 255];
+    let left = Order::Post {
+        left: &zeros,
+        right: &[],
+    };
+    let both = Order::Post {
+        left: &zeros,
+        right: &zeros,
+    };
+    let right = Order::Post {
+        left: &[],
+        right: &zeros,
+    };
     let mut file = [0u8; 514];
     file[0] = b'P';
     file[1] = b'R';
     file[2] = 255;
-    reads(&rt, &file, (b'P', 255, 0), 259);
-    reads(&rt, &file[0..259], (b'P', 255, 0), 259);
-    reads(&rt, &file[0..258], (b'!', 15, 0), 0);
+    reads(&rt, &file, Ok(Some(left)), 259);
+    reads(&rt, &file[0..259], Ok(Some(left)), 259);
+    reads(&rt, &file[0..258], Err(CUT_SHORT), 0);
     file[3] = 255;
-    reads(&rt, &file, (b'P', 255, 255), 514);
-    reads(&rt, &file[0..513], (b'!', 15, 0), 0);
+    reads(&rt, &file, Ok(Some(both)), 514);
+    reads(&rt, &file[0..513], Err(CUT_SHORT), 0);
     file[2] = 0;
-    reads(&rt, &file, (b'P', 0, 255), 259);
+    reads(&rt, &file, Ok(Some(right)), 259);
 }
 
 #[test]
-fn order_after_order(rt: HostRuntime) -> Result<(), Fail> {
+fn order_after_order(rt: HostRuntime) {
     let file = b"LO\x02\x03OTRD\x01XXUT\x00\x00\x00\x01";
+    let unknown = OrderFault::UnknownMark { place: 9 };
     let mut reader = Reader::new(file);
-    assert_eq!(rt; said(reader.next()), (b'L', 2, 3));
-    assert_eq!(rt; said(reader.next()), (b'O', 0, 0));
-    assert_eq!(rt; said(reader.next()), (b'R', 1, 0));
-    assert_eq!(rt; said(reader.next()), (b'!', 14, 9));
-    assert_eq!(rt; said(reader.next()), (b'!', 14, 9));
+    let lay_out = Order::LayOut { cells: 2, width: 3 };
+    assert_eq!(rt; reader.next(), Ok(Some(lay_out)));
+    assert_eq!(rt; reader.next(), Ok(Some(Order::Open)));
+    assert_eq!(rt; reader.next(), Ok(Some(Order::Read { cell: 1 })));
+    assert_eq!(rt; reader.next(), Err(unknown));
+    assert_eq!(rt; reader.next(), Err(unknown));
     assert_eq!(rt; reader.place(), 9);
-    let survey = Survey::of(file);
-    assert_eq!(rt; survey.orders, 3);
-    let Stop::AtFault { fault } = survey.stop else {
-        return Err(Fail::new("no fault"));
+    assert_eq!(rt; (u8::from(unknown), unknown.place()), (14, 9));
+    let survey = Survey {
+        orders: 3,
+        stop: Err(unknown),
     };
-    assert_eq!(rt; (fault.number(), fault.place()), (14, 9));
-    Ok(())
+    assert_eq!(rt; Survey::of(file), survey);
 }
 
 #[test]
-fn a_whole_file(rt: HostRuntime) -> Result<(), Fail> {
-    let survey = Survey::of(b"LO\x02\x03OTUT\x00\x00\x00\x01");
-    assert_eq!(rt; survey.orders, 3);
-    let Stop::AtEnd { place } = survey.stop else {
-        return Err(Fail::new("no end"));
+fn a_whole_file(rt: HostRuntime) {
+    let survey = Survey {
+        orders: 3,
+        stop: Ok(12),
     };
-    assert_eq!(rt; place, 12);
-    Ok(())
+    assert_eq!(rt; Survey::of(b"LO\x02\x03OTUT\x00\x00\x00\x01"), survey);
+}
+
+// The answer record of an order that was carried out.
+fn carried_out(rt: &impl Abort, value: u64) -> AnswerRecord {
+    let answer = Answer::new(value).expect(rt, "a number below 2^48");
+    assert_eq!(rt; answer.value(), value);
+    AnswerRecord::Done { answer }
 }
 
 #[test]
-fn answers_in_eight_bytes(rt: HostRuntime) -> Result<(), Fail> {
+fn answers_in_eight_bytes(rt: HostRuntime) {
     let mut buffer = [9u8; 10];
-    let Some(answer) = Answer::new(6) else {
-        return Err(Fail::new("six is an answer"));
-    };
-    let done = AnswerRecord::Done { answer };
-    assert!(rt; done.write(&mut buffer[1..9]).is_ok());
+    let done = carried_out(&rt, 6);
+    assert_eq!(rt; done.write(&mut buffer[1..9]), Ok(()));
     assert!(rt; buffer == *b"\x09OK\x00\x00\x00\x00\x00\x06\x09");
     let refused = AnswerRecord::Refused { number: 12 };
-    assert!(rt; refused.write(&mut buffer[1..9]).is_ok());
+    assert_eq!(rt; refused.write(&mut buffer[1..9]), Ok(()));
     assert!(rt; buffer == *b"\x09NO\x00\x00\x00\x00\x00\x0c\x09");
     let closing = ClosingRecord {
         number: 0,
         place: 36,
     };
-    assert!(rt; closing.write(&mut buffer[1..9]).is_ok());
+    assert_eq!(rt; closing.write(&mut buffer[1..9]), Ok(()));
     assert!(rt; buffer == *b"\x09EN\x00\x00\x00\x00\x00\x24\x09");
-    assert!(rt; done.write(&mut buffer[1..8]).is_err());
-    assert!(rt; refused.write(&mut buffer[1..10]).is_err());
-    assert!(rt; closing.write(&mut buffer[0..0]).is_err());
+    assert_eq!(rt; done.write(&mut buffer[1..8]), Err(NotEightBytes));
+    assert_eq!(rt; refused.write(&mut buffer[1..10]), Err(NotEightBytes));
+    assert_eq!(rt; closing.write(&mut buffer[0..0]), Err(NotEightBytes));
     assert!(rt; buffer == *b"\x09EN\x00\x00\x00\x00\x00\x24\x09");
-    Ok(())
-}
-
-// What an answer record says, in two numbers: a letter for the case, and the answer or the refusal's number.
-fn replied(part: &[u8]) -> (u8, u64) {
-    let Some(record) = AnswerRecord::read(part) else {
-        return (b'-', 0);
-    };
-    match record {
-        AnswerRecord::Done { answer } => (b'D', answer.value()),
-        AnswerRecord::Refused { number } => (b'R', u64::from(number)),
-    }
 }
 
 #[test]
 fn answers_read_back(rt: HostRuntime) {
-    assert!(rt; Answer::new(281474976710656).is_none());
+    assert_eq!(rt; Answer::new(281474976710656), None);
     assert!(rt; Answer::new(281474976710655).is_some());
     assert_eq!(rt;
-        replied(b"OK\xff\xff\xff\xff\xff\xff"),
-        (b'D', 281474976710655)
+        AnswerRecord::read(b"OK\xff\xff\xff\xff\xff\xff"),
+        Some(carried_out(&rt, 281474976710655))
     );
     assert_eq!(rt;
-        replied(b"OK\x01\x02\x03\x04\x05\x06"),
-        (b'D', 1108152157446)
+        AnswerRecord::read(b"OK\x01\x02\x03\x04\x05\x06"),
+        Some(carried_out(&rt, 1108152157446))
     );
-    assert_eq!(rt; replied(b"NO\x00\x00\x00\x00\x00\x0c"), (b'R', 12));
-    assert_eq!(rt; replied(b"NO\x00\x00\x00\x00\x01\x00"), (b'-', 0));
-    assert_eq!(rt; replied(b"EN\x00\x00\x00\x00\x00\x24"), (b'-', 0));
-    assert_eq!(rt; replied(b"OK\x00\x00\x00\x00\x00"), (b'-', 0));
-    assert_eq!(rt; replied(b"OK\x00\x00\x00\x00\x00\x00\x00"), (b'-', 0));
+    let refused = AnswerRecord::Refused { number: 12 };
+    assert_eq!(rt;
+        AnswerRecord::read(b"NO\x00\x00\x00\x00\x00\x0c"),
+        Some(refused)
+    );
+    assert_eq!(rt; AnswerRecord::read(b"NO\x00\x00\x00\x00\x01\x00"), None);
+    assert_eq!(rt; AnswerRecord::read(b"EN\x00\x00\x00\x00\x00\x24"), None);
+    assert_eq!(rt; AnswerRecord::read(b"OK\x00\x00\x00\x00\x00"), None);
+    assert_eq!(rt; AnswerRecord::read(b"OK\x00\x00\x00\x00\x00\x00\x00"), None);
 }
