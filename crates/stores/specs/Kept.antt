@@ -1,6 +1,6 @@
 -- The cells of a store in an array: each has a set that its kind can hold.
-use Rattle.std.proofs.Common.{◌∙◌, arith}
-use Rattle.std.specs.Prelude.{◌≡◌, ℕ, ◌^◌, ◌<◌, ◌≤◌, List, length, take, map, All}
+use Rattle.std.proofs.Common.{arith}
+use Rattle.std.specs.Prelude.{ℕ, ◌^◌, ◌<◌, ◌≤◌, List, take, map, All}
 use Rattle.std.proofs.lemmas.List.{length-map}
 use Rattle.std.proofs.Common.{length-take}
 use Rattle.std.proofs.lemmas.List.Elements.{All-get_or, All-map, All-weaker}
