@@ -24,16 +24,10 @@ loop-cell-preserved g c =
       g.met.S.Store.laws.then s t u inv.3 c.put_back.ensures.rest,
     )
 
-pub returns : goal.returns
-returns g c =
-    let m = g.S.Store in
-    let n = length (m.cells c.args.store.now) in
+pub returns-clause-same : goal.returns-clause-same
+returns-clause-same g c =
+    let n = length (g.S.Store.cells c.args.store.now) in
     let few : n ≤ 64 = (g.met.S.Store.laws.formed c.args.store.now).few in
     let within : n ≤ length c.args.saved.now = search rules in
-    record {
-      same = λ ok. sym (same_front n c.args.saved.now (m.cells c.loop-cell.store) within c.loop-cell.invariant.1
-          (λ k h. sym (c.loop-cell.invariant.2 ok k (omega (arith, c.size-size.ensures.0)))));
-      count = c.loop-cell.invariant.1;
-      width = c.loop-cell.invariant.0;
-      rest = c.loop-cell.invariant.3;
-    }
+    λ ok. sym (same_front n c.args.saved.now (g.S.Store.cells c.loop-cell.store) within c.loop-cell.invariant.1
+    (λ k h. sym (c.loop-cell.invariant.2 ok k (omega (arith, c.size-size.ensures.0)))))
