@@ -4,7 +4,8 @@ use Rattle.std.specs.Prelude.{◌≡◌, ℕ, ◌+◌, ◌<◌, List, [], ◌∷
 use Rattle.std.proofs.lemmas.List.{map-append}
 use Rattle.std.specs.List.{AllByRecursion}
 use Rattle.trials.specs.Trials.{Trial, Numbered, NotAmong, Opens, Ends}
-use Rattle.trials.specs.TrialStores.{of_cells, Apart}
+use Rattle.trials.specs.Saving.{of_cells}
+use Rattle.trials.specs.TrialStores.{Apart}
 
 all_rear : (P : Trial → Type 0) (xs ys : List Trial) → AllByRecursion P (xs ++ ys) → AllByRecursion P ys
 all_rear P [] ys h = h

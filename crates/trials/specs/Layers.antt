@@ -1,12 +1,17 @@
 -- The trials of a store by those of its table.
-use Rattle.std.proofs.Common.{arith, sym, subst, ap, ◌∙◌}
-use Rattle.std.specs.Prelude.{◌≡◌, ℕ, List, [], ◌∷◌, map, length, take, Ok, Err, Result, MatchResult, slice_set, refl}
+use Rattle.std.proofs.Common.{arith, sym, refl, subst, ap, ◌∙◌}
+use Rattle.std.proofs.Math.Logic.{∥∥₁_map, ∥∥₁_prop, ∥∥₁_elim}
+use Rattle.std.specs.Coded.{coded_ℕ, coded_list}
+use base.Stored.{Coded-set}
+use Rattle.std.specs.Prelude.{◌≡◌, ℕ, List, [], ◌∷◌, map, length, take, Ok, Err, Result, MatchResult, slice_set}
 use Rattle.std.specs.List.{AllByRecursion}
 use Rattle.std.proofs.lemmas.List.{length-set, length-map}
 use Rattle.stores.specs.Stores.{Savable, Accepted, Refused}
+use Rattle.stores.specs.declared.store.Store.{Ghosts}
 use Rattle.stores.specs.declared.faults.WriteFault.{WriteFault}
 use Rattle.trials.specs.Trials.{Trial, trial, trials_of, NotAmong, Opens, CannotOpen, Ends, CannotEnd}
-use Rattle.trials.specs.TrialStores.{of_cells, opened, open_trials, Apart, Sound, Rests}
+use Rattle.trials.specs.Saving.{of_cells, trials_over, opened, Sound}
+use Rattle.trials.specs.TrialStores.{Apart, Rests}
 use Rattle.trials.specs.declared.saved.Saved.{Saved}
 use Rattle.trials.specs.declared.saved.TrialTable.{TrialTable}
 use Rattle.trials.specs.declared.trial_store.TrialStore.{TrialStore}
@@ -28,29 +33,30 @@ cannot_end_map n t xs TooManyOpen h = h
 cannot_end_map n t xs AllGranted h = h
 cannot_end_map n t xs NotOpen h = none_map n t xs h
 
--- the table is as it was
-module _ {S : Type 0} (cells : S → List ℕ) (width : S → ℕ) (holds : ℕ → ℕ → Type 0) (b : S) (t u : TrialTable) (q : u ≡ t) where
-  pub kept_whole : ◌≡◌ {A = TrialStore S} (record { below = b; table = u }) (record { below = b; table = t })
-  kept_whole = ap (λ (v : TrialTable). record { below = b; table = v }) q
+-- two stores with trials are one where the stores below and the tables are
+pub same_store : {S : Type 0} {m : Ghosts S} (s t : TrialStore S m) → s.below ≡ t.below → s.table ≡ t.table → s ≡ t
+same_store {S} {m} s t p q =
+    subst (λ (b : S). (h : ∥ Sound m b t.table ∥₁) → s ≡ record { below = b; table = t.table; sound = h }) p
+    (subst (λ (u : TrialTable). (h : ∥ Sound m s.below u ∥₁) → s ≡ record { below = s.below; table = u; sound = h }) q
+    (λ h. ap (λ (k : ∥ Sound m s.below s.table ∥₁). record { below = s.below; table = s.table; sound = k }) (∥∥₁_prop s.sound h))) t.sound
 
-  pub kept_sound : Sound cells width holds (record { below = b; table = t }) → Sound cells width holds (record { below = b; table = u })
-  kept_sound h = subst (λ (v : TrialTable). Sound cells width holds (record { below = b; table = v })) (sym q) h
-
-  pub kept_apart : Apart t.granted (open_trials cells (record { below = b; table = t })) u.granted (open_trials cells (record { below = b; table = u }))
-  kept_apart =
-      apart_same t.granted (open_trials cells (record { below = b; table = t })) u.granted (open_trials cells (record { below = b; table = u }))
-      (ap (λ (v : TrialTable). v.granted) q) (ap (λ (v : TrialTable). open_trials cells (record { below = b; table = v })) q)
+pub same_apart : (n : ℕ) (t u : TrialTable) → u ≡ t → Apart t.granted (trials_over n t) u.granted (trials_over n u)
+same_apart n t u q = apart_same t.granted (trials_over n t) u.granted (trials_over n u) (ap (λ (v : TrialTable). v.granted) q) (ap (trials_over n) q)
 
 -- a trial of the table is opened, with the masks of the cells
-module _ {S : Type 0} (cells : S → List ℕ) (width : S → ℕ) (holds : ℕ → ℕ → Type 0) (b : S) (t u : TrialTable) (xs : List ℕ) where
+module _ {S : Type 0} (m : Ghosts S) (b : S) (t u : TrialTable) (xs : List ℕ) where
   abbrev Answered : Result ℕ TrialFault → Type 0
   Answered r = MatchResult r (λ k. Opens (trials_of t) t.granted (record { number = k; note = 0; masks = xs }) (trials_of u) u.granted) (λ e. CannotOpen (trials_of t) t.granted e × (u ≡ t))
 
-  module _ (same : take (length (cells b)) xs ≡ cells b) where
+  pub open_sound : Savable m.holds (m.width b) (length (m.cells b)) xs → (r : Result ℕ TrialFault) → Answered r → ∥ Sound m b t ∥₁ → ∥ Sound m b u ∥₁
+  open_sound can (Ok k) o h = ∥∥₁_map h (λ k. subst (AllByRecursion (λ x. Savable m.holds (m.width b) (length (m.cells b)) x.masks)) (sym o.front) (can, k))
+  open_sound can (Err e) o h = subst (λ (v : TrialTable). ∥ Sound m b v ∥₁) (sym o.1) h
+
+  module _ (same : take (length (m.cells b)) xs ≡ m.cells b) where
     over : (k : ℕ) → Opens (trials_of t) t.granted (record { number = k; note = 0; masks = xs }) (trials_of u) u.granted
-        → Opens (open_trials cells (record { below = b; table = t })) t.granted (opened k (cells b)) (open_trials cells (record { below = b; table = u })) u.granted
+        → Opens (trials_over (length (m.cells b)) t) t.granted (opened k (m.cells b)) (trials_over (length (m.cells b)) u) u.granted
     over k o =
-        let f = of_cells (length (cells b)) in
+        let f = of_cells (length (m.cells b)) in
         record {
           few = omega (arith, o.few, length-map (trials_of t) f);
           left = o.left;
@@ -59,69 +65,65 @@ module _ {S : Type 0} (cells : S → List ℕ) (width : S → ℕ) (holds : ℕ 
           spent = o.spent;
         }
 
-    pub open_outcome : (r : Result ℕ TrialFault) → Answered r
-        → MatchResult r (λ k. Opens (open_trials cells (record { below = b; table = t })) t.granted (opened k (cells b)) (open_trials cells (record { below = b; table = u })) u.granted × (b ≡ b))
-        (λ e. CannotOpen (open_trials cells (record { below = b; table = t })) t.granted e × (◌≡◌ {A = TrialStore S} (record { below = b; table = u }) (record { below = b; table = t })))
-    open_outcome (Ok k) o = (over k o, refl)
-    open_outcome (Err e) o = (cannot_open_map (of_cells (length (cells b))) (trials_of t) t.granted e o.0, kept_whole cells width holds b t u o.1)
+    pub open_outcome : (X : Type 0) → (u ≡ t → X) → (r : Result ℕ TrialFault) → Answered r
+        → MatchResult r (λ k. Opens (trials_over (length (m.cells b)) t) t.granted (opened k (m.cells b)) (trials_over (length (m.cells b)) u) u.granted × (b ≡ b))
+        (λ e. CannotOpen (trials_over (length (m.cells b)) t) t.granted e × X)
+    open_outcome X f (Ok k) o = (over k o, refl)
+    open_outcome X f (Err e) o = (cannot_open_map (of_cells (length (m.cells b))) (trials_of t) t.granted e o.0, f o.1)
 
-    pub open_apart : (r : Result ℕ TrialFault) → Answered r
-        → Apart t.granted (open_trials cells (record { below = b; table = t })) u.granted (open_trials cells (record { below = b; table = u }))
-    open_apart (Ok k) o = apart_opens t.granted (open_trials cells (record { below = b; table = t })) (opened k (cells b)) u.granted (open_trials cells (record { below = b; table = u })) (over k o)
-    open_apart (Err e) o = kept_apart cells width holds b t u o.1
-
-  pub open_sound : Savable holds (width b) (length (cells b)) xs → (r : Result ℕ TrialFault) → Answered r
-      → Sound cells width holds (record { below = b; table = t }) → Sound cells width holds (record { below = b; table = u })
-  open_sound can (Ok k) o h = subst (AllByRecursion (λ x. Savable holds (width b) (length (cells b)) x.masks)) (sym o.front) (can, h)
-  open_sound can (Err e) o h = kept_sound cells width holds b t u o.1 h
+    pub open_apart : (r : Result ℕ TrialFault) → Answered r → Apart t.granted (trials_over (length (m.cells b)) t) u.granted (trials_over (length (m.cells b)) u)
+    open_apart (Ok k) o = apart_opens t.granted (trials_over (length (m.cells b)) t) (opened k (m.cells b)) u.granted (trials_over (length (m.cells b)) u) (over k o)
+    open_apart (Err e) o = same_apart (length (m.cells b)) t u o.1
 
 -- a trial of the table ends, and the store below becomes c, of as many cells and the same width
-module _ {S : Type 0} (cells : S → List ℕ) (width : S → ℕ) (holds : ℕ → ℕ → Type 0) (b c : S) (t u : TrialTable) (n : ℕ) (x : Saved)
-    (count : length (cells c) ≡ length (cells b)) (scale : width c ≡ width b) (e : Ends n (trials_of t) (trial x) (trials_of u)) where
-  pub end_ends : Ends n (open_trials cells (record { below = b; table = t })) (of_cells (length (cells b)) (trial x)) (open_trials cells (record { below = c; table = u }))
+module _ {S : Type 0} (m : Ghosts S) (b c : S) (t u : TrialTable) (n : ℕ) (x : Saved)
+    (count : length (m.cells c) ≡ length (m.cells b)) (scale : m.width c ≡ m.width b) (e : Ends n (trials_of t) (trial x) (trials_of u)) where
+  pub end_ends : Ends n (trials_over (length (m.cells b)) t) (of_cells (length (m.cells b)) (trial x)) (trials_over (length (m.cells c)) u)
   end_ends =
-      let f = of_cells (length (cells b)) in
+      let f = of_cells (length (m.cells b)) in
       subst (λ (k : ℕ). Ends n (map f (trials_of t)) (f (trial x)) (map (of_cells k) (trials_of u))) (sym count) (ends_map f n (trials_of t) (trial x) (trials_of u) refl e)
 
-  pub end_sound : Sound cells width holds (record { below = b; table = t }) → Sound cells width holds (record { below = c; table = u })
-  end_sound h =
-      let older = (ends_that (λ y. Savable holds (width b) (length (cells b)) y.masks) n (trials_of t) (trial x) (trials_of u) e h).1 in
-      subst (λ (k : ℕ). AllByRecursion (λ y. Savable holds (width c) k y.masks) (trials_of u)) (sym count)
-      (subst (λ (d : ℕ). AllByRecursion (λ y. Savable holds d (length (cells b)) y.masks) (trials_of u)) (sym scale) older)
+  pub end_sound : ∥ Sound m b t ∥₁ → ∥ Sound m c u ∥₁
+  end_sound s = ∥∥₁_map s (λ h.
+      let older = (ends_that (λ y. Savable m.holds (m.width b) (length (m.cells b)) y.masks) n (trials_of t) (trial x) (trials_of u) e h).1 in
+      subst (λ (k : ℕ). AllByRecursion (λ y. Savable m.holds (m.width c) k y.masks) (trials_of u)) (sym count)
+      (subst (λ (d : ℕ). AllByRecursion (λ y. Savable m.holds d (length (m.cells b)) y.masks) (trials_of u)) (sym scale) older))
 
-  pub end_can : Sound cells width holds (record { below = b; table = t }) → Savable holds (width b) (length (cells b)) x.masks
-  end_can h = (ends_that (λ y. Savable holds (width b) (length (cells b)) y.masks) n (trials_of t) (trial x) (trials_of u) e h).0
+  -- its masks can be written back
+  pub end_back : ∥ Sound m b t ∥₁ → (ys : List ℕ) → (Savable m.holds (m.width b) (length (m.cells b)) x.masks → m.cells c ≡ ys) → m.cells c ≡ ys
+  end_back s ys f = ∥∥₁_elim s (Coded-set (coded_list coded_ℕ) (m.cells c) ys) (λ h. f (ends_that (λ y. Savable m.holds (m.width b) (length (m.cells b)) y.masks) n (trials_of t) (trial x) (trials_of u) e h).0)
 
-  pub end_apart : u.granted ≡ t.granted → Apart t.granted (open_trials cells (record { below = b; table = t })) u.granted (open_trials cells (record { below = c; table = u }))
-  end_apart q =
-      apart_ends n t.granted (open_trials cells (record { below = b; table = t })) (of_cells (length (cells b)) (trial x)) u.granted (open_trials cells (record { below = c; table = u })) q end_ends
+  pub end_apart : u.granted ≡ t.granted → Apart t.granted (trials_over (length (m.cells b)) t) u.granted (trials_over (length (m.cells c)) u)
+  end_apart q = apart_ends n t.granted (trials_over (length (m.cells b)) t) (of_cells (length (m.cells b)) (trial x)) u.granted (trials_over (length (m.cells c)) u) q end_ends
+
+pub ended_sound : {S : Type 0} (m : Ghosts S) (b : S) (t u : TrialTable) (n : ℕ) (r : Result Saved TrialFault)
+    → MatchResult r (λ x. Ends n (trials_of t) (trial x) (trials_of u) × (u.granted ≡ t.granted)) (λ e. CannotEnd n (trials_of t) e × (u ≡ t)) → ∥ Sound m b t ∥₁ → ∥ Sound m b u ∥₁
+ended_sound m b t u n (Ok x) o h = end_sound m b b t u n x refl refl o.0 h
+ended_sound m b t u n (Err e) o h = subst (λ (v : TrialTable). ∥ Sound m b v ∥₁) (sym o.1) h
 
 -- a write to the store below leaves the trials
-pub write_rests : {S : Type 0} (cells : S → List ℕ) (width : S → ℕ) (holds : ℕ → ℕ → Type 0) (b c : S) (t : TrialTable)
-    → length (cells c) ≡ length (cells b) → width c ≡ width b → Rests cells width holds (record { below = b; table = t }) (record { below = c; table = t })
-write_rests cells width holds b c t count scale = record {
-  trials = ap (λ (k : ℕ). map (of_cells k) (trials_of t)) count;
-  granted = refl;
-  sound = λ h. subst (λ (k : ℕ). AllByRecursion (λ y. Savable holds (width c) k y.masks) (trials_of t)) (sym count)
-      (subst (λ (d : ℕ). AllByRecursion (λ y. Savable holds d (length (cells b)) y.masks) (trials_of t)) (sym scale) h);
-}
+pub write_sound : {S : Type 0} (m : Ghosts S) (b c : S) (t : TrialTable) → length (m.cells c) ≡ length (m.cells b) → m.width c ≡ m.width b → ∥ Sound m b t ∥₁ → ∥ Sound m c t ∥₁
+write_sound m b c t count scale h =
+    subst (λ (k : ℕ). ∥ AllByRecursion (λ y. Savable m.holds (m.width c) k y.masks) (trials_of t) ∥₁) (sym count)
+    (subst (λ (d : ℕ). ∥ AllByRecursion (λ y. Savable m.holds d (length (m.cells b)) y.masks) (trials_of t) ∥₁) (sym scale) h)
 
-pub write_count : {S : Type 0} (cells : S → List ℕ) (width : S → ℕ) (holds : ℕ → ℕ → Type 0) (b c : S) (cell m : ℕ) (r : Result Unit WriteFault)
-    → MatchResult r (λ _. Accepted holds (length (cells b)) (width b) cell m × (cells c ≡ slice_set (cells b) cell m)) (λ e. Refused holds (length (cells b)) (width b) cell m e × (c ≡ b))
-    → length (cells c) ≡ length (cells b)
-write_count cells width holds b c cell m (Ok x) o = ap length o.1 ∙ length-set (cells b) cell m
-write_count cells width holds b c cell m (Err e) o = ap (λ (s : _). length (cells s)) o.1
+pub write_count : {S : Type 0} (m : Ghosts S) (b c : S) (cell mask : ℕ) (r : Result Unit WriteFault)
+    → MatchResult r (λ _. Accepted m.holds (length (m.cells b)) (m.width b) cell mask × (m.cells c ≡ slice_set (m.cells b) cell mask))
+    (λ e. Refused m.holds (length (m.cells b)) (m.width b) cell mask e × (c ≡ b))
+    → length (m.cells c) ≡ length (m.cells b)
+write_count m b c cell mask (Ok x) o = ap length o.1 ∙ length-set (m.cells b) cell mask
+write_count m b c cell mask (Err e) o = ap (λ (s : _). length (m.cells s)) o.1
 
--- a refused write leaves the whole as it was
-pub write_outcome : {S : Type 0} (cells : S → List ℕ) (width : S → ℕ) (holds : ℕ → ℕ → Type 0) (b c : S) (t : TrialTable) (cell m : ℕ) (r : Result Unit WriteFault)
-    → MatchResult r (λ _. Accepted holds (length (cells b)) (width b) cell m × (cells c ≡ slice_set (cells b) cell m)) (λ e. Refused holds (length (cells b)) (width b) cell m e × (c ≡ b))
-    → MatchResult r (λ _. Accepted holds (length (cells b)) (width b) cell m × (cells c ≡ slice_set (cells b) cell m))
-    (λ e. Refused holds (length (cells b)) (width b) cell m e × (◌≡◌ {A = TrialStore S} (record { below = c; table = t }) (record { below = b; table = t })))
-write_outcome cells width holds b c t cell m (Ok x) o = o
-write_outcome cells width holds b c t cell m (Err e) o = (o.0, ap (λ (s : _). record { below = s; table = t }) o.1)
+pub write_outcome : {S : Type 0} (m : Ghosts S) (b c : S) (cell mask : ℕ) (r : Result Unit WriteFault) (X : Type 0) → (c ≡ b → X)
+    → MatchResult r (λ _. Accepted m.holds (length (m.cells b)) (m.width b) cell mask × (m.cells c ≡ slice_set (m.cells b) cell mask))
+    (λ e. Refused m.holds (length (m.cells b)) (m.width b) cell mask e × (c ≡ b))
+    → MatchResult r (λ _. Accepted m.holds (length (m.cells b)) (m.width b) cell mask × (m.cells c ≡ slice_set (m.cells b) cell mask))
+    (λ e. Refused m.holds (length (m.cells b)) (m.width b) cell mask e × X)
+write_outcome m b c cell mask (Ok x) X f o = o
+write_outcome m b c cell mask (Err e) X f o = (o.0, f o.1)
 
-pub rests_same : {S : Type 0} (cells : S → List ℕ) (width : S → ℕ) (holds : ℕ → ℕ → Type 0) (s : TrialStore S) → Rests cells width holds s s
-rests_same cells width holds s = record { trials = refl; granted = refl; sound = λ h. h }
+pub rests_same : {S : Type 0} {m : Ghosts S} (s : TrialStore S m) → Rests s s
+rests_same s = record { trials = refl; granted = refl }
 
-pub rests_then : {S : Type 0} (cells : S → List ℕ) (width : S → ℕ) (holds : ℕ → ℕ → Type 0) (s t u : TrialStore S) → Rests cells width holds s t → Rests cells width holds t u → Rests cells width holds s u
-rests_then cells width holds s t u p q = record { trials = q.trials ∙ p.trials; granted = q.granted ∙ p.granted; sound = λ h. q.sound (p.sound h) }
+pub rests_then : {S : Type 0} {m : Ghosts S} (s t u : TrialStore S m) → Rests s t → Rests t u → Rests s u
+rests_then s t u p q = record { trials = q.trials ∙ p.trials; granted = q.granted ∙ p.granted }

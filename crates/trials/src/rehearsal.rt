@@ -1,7 +1,7 @@
 // A rehearsal: calls made in a trial that is then undone. Whatever they were, the cells are again those at the opening.
 ghost use Rattle.std.specs.Prelude.{◌≡◌, length, IfOk, MatchResult, OnOk};
 ghost use Rattle.trials.specs.Trials.{CannotOpen};
-ghost use Rattle.trials.specs.TrialStores.{open_trials, Sound, Undone};
+ghost use Rattle.trials.specs.TrialStores.{open_trials, Undone};
 ghost use Rattle.trials.specs.declared.trial_store.TrialStore.{TrialStore};
 ghost use Rattle.trials.specs.Rehearsals.{Step, Ran, Tried, Rehearsed, NotRehearsed, Back};
 
@@ -21,8 +21,7 @@ pub enum TrialCall {
 
 // Makes a call, whatever it answers.
 pub fn carry_out<S: Store>(store: &mut TrialStore<S>, call: TrialCall)
-    ensures step { Step S.cells S.width S.holds S.stays call store.old store.new }
-    ensures sound { Sound S.cells S.width S.holds store.old → Sound S.cells S.width S.holds store.new }
+    ensures { Step call store.old store.new }
 {
     match call {
         TrialCall::Write { cell, part } => {
@@ -42,8 +41,7 @@ pub fn carry_out<S: Store>(store: &mut TrialStore<S>, call: TrialCall)
 
 // Makes the calls, one after another.
 fn carry_out_all<S: Store>(store: &mut TrialStore<S>, calls: &[TrialCall])
-    ensures ran { Ran S.cells S.width S.holds S.stays calls.now store.old store.new }
-    ensures sound { Sound S.cells S.width S.holds store.old → Sound S.cells S.width S.holds store.new }
+    ensures { Ran calls.now store.old store.new }
 {
     for call in calls {
         carry_out(store, *call);
@@ -52,9 +50,8 @@ fn carry_out_all<S: Store>(store: &mut TrialStore<S>, calls: &[TrialCall])
 
 // Opens a trial, makes the calls, and answers the trial's number. Whatever the calls were, to undo that number takes the store back.
 fn try_calls<S: Store>(store: &mut TrialStore<S>, calls: &[TrialCall]) -> Result<u32, TrialFault>
-    ensures outcome { MatchResult result (λ number. Tried S.cells S.width S.holds S.stays calls.now number store.old store.new) (λ e. CannotOpen (open_trials S.cells store.old) store.old.table.granted e × (store.new ≡ store.old)) }
-    ensures back { IfOk result (λ number. (t : TrialStore _) → Undone S.cells S.width S.holds S.stays number store.new t → Back S.cells S.width S.holds S.stays store.old t) }
-    ensures sound { Sound S.cells S.width S.holds store.old → Sound S.cells S.width S.holds store.new }
+    ensures outcome { MatchResult result (λ number. Tried calls.now number store.old store.new) (λ e. CannotOpen (open_trials store.old) store.old.table.granted e × (store.new ≡ store.old)) }
+    ensures back { IfOk result (λ number. (t : TrialStore _ _) → Undone number store.new t → Back store.old t) }
 {
     let number = store.open()?;
     carry_out_all(store, calls);
@@ -63,9 +60,8 @@ fn try_calls<S: Store>(store: &mut TrialStore<S>, calls: &[TrialCall]) -> Result
 
 // Opens a trial, makes the calls, and undoes that trial.
 fn try_and_undo<S: Store>(store: &mut TrialStore<S>, calls: &[TrialCall]) -> Result<(), TrialFault>
-    ensures outcome { MatchResult result (λ _. Rehearsed S.cells S.width S.holds S.stays calls.now store.old store.new) (λ e. NotRehearsed S.cells S.width S.holds S.stays calls.now store.old store.new e) }
-    ensures back { OnOk result (Back S.cells S.width S.holds S.stays store.old store.new) }
-    ensures sound { Sound S.cells S.width S.holds store.old → Sound S.cells S.width S.holds store.new }
+    ensures outcome { MatchResult result (λ _. Rehearsed calls.now store.old store.new) (λ e. NotRehearsed calls.now store.old store.new e) }
+    ensures back { OnOk result (Back store.old store.new) }
 {
     let number = try_calls(store, calls)?;
     store.undo(number)?;
@@ -78,9 +74,8 @@ pub fn rehearse<S: Store>(
     store: &mut TrialStore<S>,
     calls: &[TrialCall],
 ) -> Result<usize, TrialFault>
-    ensures outcome { MatchResult result (λ left. Rehearsed S.cells S.width S.holds S.stays calls.now store.old store.new × (left ≡ length (open_trials S.cells store.new))) (λ e. NotRehearsed S.cells S.width S.holds S.stays calls.now store.old store.new e) }
-    ensures back { OnOk result (Back S.cells S.width S.holds S.stays store.old store.new) }
-    ensures sound { Sound S.cells S.width S.holds store.old → Sound S.cells S.width S.holds store.new }
+    ensures outcome { MatchResult result (λ left. Rehearsed calls.now store.old store.new × (left ≡ length (open_trials store.new))) (λ e. NotRehearsed calls.now store.old store.new e) }
+    ensures back { OnOk result (Back store.old store.new) }
 {
     try_and_undo(store, calls)?;
     Ok(store.trials())

@@ -1,47 +1,42 @@
-use Rattle.std.proofs.Common.{length}
+use Rattle.std.proofs.Common.{length, take, refl}
 use Rattle.std.proofs.lemmas.Result.{err_from_is_err_and}
 use Rattle.trials.specs.Trials.{trial, trials_of}
-use Rattle.trials.specs.TrialStores.{of_cells}
-use Rattle.trials.specs.Layers.{cannot_end_map, kept_whole, kept_sound, kept_apart, end_ends, end_sound, end_can, end_apart}
+use Rattle.trials.specs.Saving.{of_cells}
+use Rattle.trials.specs.Layers.{cannot_end_map, same_store, end_ends, end_sound, end_back, end_apart}
 use Rattle.trials.proofs.trial_store.TrialStore.take_back.Goals as goal
 
-pub returns-in_err-saved : goal.returns-in_err-saved
-returns-in_err-saved g c =
-    let m = g.S.Store in
+pub returns-in_err-saved-clause-outcome : goal.returns-in_err-saved-clause-outcome
+returns-in_err-saved-clause-outcome g c =
     let s = c.args.self.now in
-    let u = c.end.new.self in
     let p = err_from_is_err_and c.from_residual.result c.from_residual.ensures.1 in
     let h = c.in_err-saved.ensures in
-    record {
-      outcome = rw (p.1, p.2) (cannot_end_map (length (m.cells s.below)) c.args.number (trials_of s.table) c.in_err-saved.field-0.0 h.0, kept_whole m.cells m.width m.holds s.below s.table u h.1);
-      sound = kept_sound m.cells m.width m.holds s.below s.table u h.1;
-      apart = kept_apart m.cells m.width m.holds s.below s.table u h.1;
-    }
+    rw (p.1, p.2) (cannot_end_map (length (g.S.Store.cells s.below)) c.args.number (trials_of s.table) c.in_err-saved.field-0.0 h.0, same_store _ s refl h.1)
+
+pub invariant_of-self-2 : goal.invariant_of-self-2
+invariant_of-self-2 g c =
+    let s = c.args.self.now in
+    let r = c.restore.ensures in
+    record { sound = end_sound g.S.Store s.below c.restore.new.store s.table c.end.new.self c.args.number c.in_ok-saved.saved r.count r.width c.in_ok-saved.ensures.0 s.sound }
 
 pub returns : goal.returns
 returns g c =
     let m = g.S.Store in
     let s = c.args.self.now in
-    let b = s.below in
-    let t = s.table in
+    let b = c.restore.new.store in
     let u = c.end.new.self in
-    let b' = c.restore.new.store in
     let x = c.in_ok-saved.saved in
     let n = c.args.number in
     let e = c.in_ok-saved.ensures.0 in
-    let q = c.in_ok-saved.ensures.1 in
-    let count = c.restore.ensures.count in
-    let scale = c.restore.ensures.width in
+    let r = c.restore.ensures in
     record {
       outcome = record {
-        that = of_cells (length (m.cells b)) (trial x);
-        ends = end_ends m.cells m.width m.holds b b' t u n x count scale e;
-        back = λ h. c.restore.ensures.same (end_can m.cells m.width m.holds b b' t u n x count scale e h);
-        count = count;
-        scale = scale;
-        rest = c.restore.ensures.rest;
-        granted = q;
+        that = of_cells (length (m.cells s.below)) (trial x);
+        ends = end_ends m s.below b s.table u n x r.count r.width e;
+        back = end_back m s.below b s.table u n x r.count r.width e s.sound (take (length (m.cells s.below)) x.masks) r.same;
+        count = r.count;
+        scale = r.width;
+        rest = r.rest;
+        granted = c.in_ok-saved.ensures.1;
       };
-      sound = end_sound m.cells m.width m.holds b b' t u n x count scale e;
-      apart = end_apart m.cells m.width m.holds b b' t u n x count scale e q;
+      apart = end_apart m s.below b s.table u n x r.count r.width e c.in_ok-saved.ensures.1;
     }
