@@ -2,10 +2,8 @@
 ghost use Rattle.std.specs.Prelude.{◌≡◌, ℕ, ◌^◌, ◌<◌, ◌≤◌, ◌⊎◌, MatchBool, MatchOption, bit_and};
 ghost use Rattle.domains.specs.Sets.{In, up_to, from, full_scale, run, size, Has, NoRank};
 
-use crate::masks::{
-    RANKS, common_part, full_mask, has_rank, highest_rank, lowest_rank, part_from, part_up_to,
-    rank_count, span_mask,
-};
+// How many ranks there are: masks are below 2^48.
+const RANKS: usize = 48;
 
 #[derive(Clone, Copy, PartialEq, Eq, Debug)]
 pub struct Domain {
@@ -35,81 +33,96 @@ impl Domain {
         self.mask
     }
 
+    #[tactic(auto, using(crate::proofs::Found::full))]
     // All ranks below a width; none where the width is 0 or above 48.
     pub fn full(width: usize) -> Option<Domain>
         ensures taken { MatchOption result ((width ≡ 0) ⊎ (48 < width)) (λ _. (1 ≤ width) × (width ≤ 48)) }
         ensures value { MatchOption result ((width ≡ 0) ⊎ (48 < width)) (λ d. d.mask ≡ full_scale width) }
         ensures ranks { MatchOption result ((width ≡ 0) ⊎ (48 < width)) (λ d. Has d.mask (λ k. k < width)) }
     {
-        if width > 0 && width <= RANKS {
-            Domain::new(full_mask(width))
-        } else {
-            None
+        if width > RANKS {
+            return None;
         }
+        Domain::new((1 << width) - 1)
     }
 
+    #[tactic(auto, using(crate::proofs::Found::span))]
     // The ranks from `low` up to `high`; none where there are none, or `high` is no rank.
     pub fn span(low: usize, high: usize) -> Option<Domain>
         ensures taken { MatchOption result ((high < low) ⊎ (48 ≤ high)) (λ _. (low ≤ high) × (high < 48)) }
         ensures value { MatchOption result ((high < low) ⊎ (48 ≤ high)) (λ d. d.mask ≡ run low high) }
         ensures ranks { MatchOption result ((high < low) ⊎ (48 ≤ high)) (λ d. Has d.mask (λ k. (low ≤ k) × (k ≤ high))) }
     {
-        if high < low || high >= RANKS {
+        if high >= RANKS {
             return None;
         }
-        Domain::new(span_mask(low, high))
+        Domain::full(high + 1)?.from(low)
     }
 
+    #[tactic(auto, using(crate::proofs::Found::none_past))]
     pub fn contains(self, rank: usize) -> bool
         ensures { MatchBool result (In self.mask rank) (In self.mask rank → ⊥) }
     {
-        has_rank(self.mask, rank)
+        rank < RANKS && (self.mask >> rank) % 2 == 1
     }
 
+    // As many zeros end a mask as there are ranks below its lowest.
+    #[tactic(auto, using(crate::proofs::Found::lowest))]
     pub fn lowest(self) -> usize
         ensures within { In self.mask result }
         ensures least { NoRank (λ k. (k < result) × In self.mask k) }
         ensures rank { result < 48 }
     {
-        lowest_rank(self.mask)
+        self.mask.trailing_zeros() as usize
     }
 
+    #[tactic(auto, using(crate::proofs::Found::highest))]
     pub fn highest(self) -> usize
         ensures within { In self.mask result }
         ensures most { NoRank (λ k. (result < k) × In self.mask k) }
         ensures rank { result < 48 }
     {
-        highest_rank(self.mask)
+        self.mask.ilog2() as usize
     }
 
+    #[tactic(auto, using(crate::proofs::Found::front))]
     // The part up to a rank, if it has any.
     pub fn up_to(self, rank: usize) -> Option<Domain>
         ensures value { MatchOption result (up_to self.mask rank ≡ 0) (λ d. d.mask ≡ up_to self.mask rank) }
         ensures ranks { MatchOption result (NoRank (λ k. In self.mask k × (k ≤ rank))) (λ d. Has d.mask (λ k. In self.mask k × (k ≤ rank))) }
     {
-        Domain::new(part_up_to(self.mask, rank))
+        if rank >= RANKS {
+            return Some(self);
+        }
+        Domain::new(self.mask & ((1 << (rank + 1)) - 1))
     }
 
+    #[tactic(auto, using(crate::proofs::Found::rear))]
     // The part from a rank, if it has any.
     pub fn from(self, rank: usize) -> Option<Domain>
         ensures value { MatchOption result (from self.mask rank ≡ 0) (λ d. d.mask ≡ from self.mask rank) }
         ensures ranks { MatchOption result (NoRank (λ k. In self.mask k × (rank ≤ k))) (λ d. Has d.mask (λ k. In self.mask k × (rank ≤ k))) }
     {
-        Domain::new(part_from(self.mask, rank))
+        if rank >= RANKS {
+            return None;
+        }
+        Domain::new(self.mask >> rank << rank)
     }
 
     // The common part with the set that a mask writes, if it has any.
+    #[tactic(auto, using(crate::proofs::Found::common))]
     pub fn common(self, mask: u64) -> Option<Domain>
         ensures value { MatchOption result (bit_and self.mask mask ≡ 0) (λ d. d.mask ≡ bit_and self.mask mask) }
         ensures ranks { MatchOption result (NoRank (λ k. In self.mask k × In mask k)) (λ d. Has d.mask (λ k. In self.mask k × In mask k)) }
     {
-        Domain::new(common_part(self.mask, mask))
+        Domain::new(self.mask & mask)
     }
 
     // How many ranks the set has.
+    #[tactic(auto, using(crate::proofs::Found::count))]
     pub fn count(self) -> usize
         ensures { result ≡ size self.mask }
     {
-        rank_count(self.mask)
+        self.mask.count_ones() as usize
     }
 }

@@ -44,7 +44,7 @@ impl FilterFault {
         match self {
             FilterFault::Rows(fault) => fault.number(),
             FilterFault::NothingLeft => 9,
-            FilterFault::Store(fault) => fault.number(),
+            FilterFault::Store(fault) => u8::from(fault),
         }
     }
 }

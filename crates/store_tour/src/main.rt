@@ -12,7 +12,7 @@ fn lay_out<S: Store>(rt: &HostRuntime, store: &mut S, n: usize, d: usize) -> io:
     match store.lay_out(n, d) {
         Ok(()) => println!(rt; "lay out {n} cells, {d} ranks: done"),
         Err(fault) => {
-            let number = fault.number();
+            let number = u8::from(fault);
             println!(rt; "lay out {n} cells, {d} ranks: refused, {number}")
         }
     }
@@ -25,7 +25,7 @@ fn write<S: Store>(rt: &HostRuntime, store: &mut S, cell: usize, mask: u64) -> i
     match store.write(cell, part) {
         Ok(()) => println!(rt; "write {mask} to cell {cell}: done"),
         Err(fault) => {
-            let number = fault.number();
+            let number = u8::from(fault);
             println!(rt; "write {mask} to cell {cell}: refused, {number}")
         }
     }

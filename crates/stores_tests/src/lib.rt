@@ -25,14 +25,14 @@ mod tests {
         };
         match store.write(cell, part) {
             Ok(()) => 0,
-            Err(fault) => fault.number(),
+            Err(fault) => u8::from(fault),
         }
     }
 
     fn laid<S: Store>(store: &mut S, n: usize, d: usize) -> u8 {
         match store.lay_out(n, d) {
             Ok(()) => 0,
-            Err(fault) => fault.number(),
+            Err(fault) => u8::from(fault),
         }
     }
 
