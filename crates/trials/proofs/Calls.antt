@@ -1,7 +1,8 @@
 -- What any list of calls leaves of a trial that is open.
 use Rattle.std.proofs.Common.{◌≡◌, ℕ, ◌+◌, ◌<◌, ◌≤◌, List, [], ◌∷◌, ◌++◌, length, get_or, take, Ok, Err, Result, sym, refl, ap, ◌∙◌, subst, arith}
 use Rattle.std.proofs.lemmas.List.{take_more}
-use Rattle.trials.specs.Trials.{Trial, trials_of, NotAmong, Ends}
+use Rattle.trials.specs.Saved.{Trial}
+use Rattle.trials.specs.Trials.{trials_of, NotAmong, Ends}
 use Rattle.stores.specs.declared.store.Store.{Ghosts}
 use Rattle.trials.specs.Saving.{opened}
 use Rattle.trials.specs.TrialStores.{open_trials, TrialsApart, OpenAnswers, KeepAnswers, Undone, UndoAnswers}
@@ -10,7 +11,6 @@ use Rattle.trials.specs.declared.trial_store.TrialStore.{TrialStore}
 use Rattle.trials.specs.declared.faults.TrialFault.{TrialFault}
 use Rattle.trials.specs.declared.rehearsal.TrialCall.{TrialCall}
 use Rattle.trials.specs.declared.rehearsal.TrialCall.TheVariants.{Write, Open, Undo, Keep}
-use Rattle.trials.proofs.Places.{numbered_below}
 use Rattle.trials.specs.Ending.{ends_front, next_new, numbered_map, apart_same, apart_opens, apart_ends, apart_then}
 
 module _ {S : Type 0} {m : Ghosts S} where
@@ -59,7 +59,7 @@ module _ {S : Type 0} {m : Ghosts S} where
   next_free s =
       let t = s.table in
       next_new t.granted (open_trials s)
-      (numbered_map (length (m.cells s.below)) t.granted (trials_of t) (numbered_below t.granted t.saved t.count t.some t.fresh t.rising))
+      (numbered_map (length (m.cells s.below)) t.granted (trials_of t) t.numbered)
 
   -- a trial is opened, the trials are then left apart, and it is undone: all is as it was
   module _ (s first last t : TrialStore S m) (number : ℕ) (o : OpenAnswers s first (Ok number)) (a : TrialsApart first last) (w : m.width last.below ≡ m.width first.below) (u : Undone number last t) where

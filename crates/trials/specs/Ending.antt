@@ -3,7 +3,8 @@ use Rattle.std.proofs.Common.{arith, sym, subst, ap, ◌∙◌, append_assoc}
 use Rattle.std.specs.Prelude.{◌≡◌, ℕ, ◌+◌, ◌<◌, List, [], ◌∷◌, ◌++◌, map, drop, ◌≢◌, slice_index_or}
 use Rattle.std.proofs.lemmas.List.{map-append}
 use Rattle.std.specs.List.{AllByRecursion}
-use Rattle.trials.specs.Trials.{Trial, Numbered, NotAmong, Opens, Ends}
+use Rattle.trials.specs.Saved.{Trial, Numbered}
+use Rattle.trials.specs.Trials.{NotAmong, Opens, Ends}
 use Rattle.trials.specs.Saving.{of_cells}
 use Rattle.trials.specs.TrialStores.{Apart}
 

@@ -9,11 +9,12 @@ use Rattle.std.proofs.lemmas.List.{length-set, length-map}
 use Rattle.stores.specs.Stores.{Savable, Accepted, Refused}
 use Rattle.stores.specs.declared.store.Store.{Ghosts}
 use Rattle.stores.specs.declared.faults.WriteFault.{WriteFault}
-use Rattle.trials.specs.Trials.{Trial, trial, trials_of, NotAmong, Opens, CannotOpen, Ends, CannotEnd}
+use Rattle.trials.specs.Saved.{Trial, trial}
+use Rattle.trials.specs.Trials.{trials_of, NotAmong, Opens, CannotOpen, Ends, CannotEnd}
 use Rattle.trials.specs.Saving.{of_cells, trials_over, opened, Sound}
 use Rattle.trials.specs.TrialStores.{Apart, Rests}
 use Rattle.trials.specs.declared.saved.Saved.{Saved}
-use Rattle.trials.specs.declared.saved.TrialTable.{TrialTable}
+use Rattle.trials.specs.declared.table.TrialTable.{TrialTable}
 use Rattle.trials.specs.declared.trial_store.TrialStore.{TrialStore}
 use Rattle.trials.specs.declared.faults.TrialFault.{TrialFault}
 use Rattle.trials.specs.declared.faults.TrialFault.TheVariants.{TooManyOpen, AllGranted, NotOpen}

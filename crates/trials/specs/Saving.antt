@@ -3,8 +3,9 @@ use Rattle.std.specs.Prelude.{ℕ, List, map, length, take}
 use Rattle.std.specs.List.{AllByRecursion}
 use Rattle.stores.specs.Stores.{Savable}
 use Rattle.stores.specs.declared.store.Store.{Ghosts}
-use Rattle.trials.specs.Trials.{Trial, trials_of}
-use Rattle.trials.specs.declared.saved.TrialTable.{TrialTable}
+use Rattle.trials.specs.Saved.{Trial}
+use Rattle.trials.specs.Trials.{trials_of}
+use Rattle.trials.specs.declared.table.TrialTable.{TrialTable}
 
 -- a trial of n cells
 abbrev pub of_cells : ℕ → Trial → Trial

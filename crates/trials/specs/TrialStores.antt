@@ -1,7 +1,8 @@
 -- A store with trials: the open trials, the newest first, each with the cells as they were when it was opened.
 use Rattle.std.specs.Prelude.{◌≡◌, ℕ, ◌≤◌, List, length, Result, MatchResult}
 use Rattle.stores.specs.declared.store.Store.{Ghosts}
-use Rattle.trials.specs.Trials.{Trial, Opens, CannotOpen, Ends, CannotEnd}
+use Rattle.trials.specs.Saved.{Trial}
+use Rattle.trials.specs.Trials.{Opens, CannotOpen, Ends, CannotEnd}
 use Rattle.trials.specs.Saving.{trials_over, opened}
 use Rattle.trials.specs.declared.faults.TrialFault.{TrialFault}
 use Rattle.trials.specs.declared.trial_store.TrialStore.{TrialStore}

@@ -2,7 +2,7 @@
 ghost use Rattle.trials.specs.Saving.{Sound};
 
 use crate::faults::TrialFault;
-use crate::saved::TrialTable;
+use crate::table::TrialTable;
 use domains::domain::Domain;
 use stores::copying::{restore, snapshot};
 use stores::faults::{LayOutFault, WriteFault};
@@ -18,7 +18,8 @@ pub struct TrialStore<S: Store> {
 impl<S: Store> TrialStore<S> {
     ghost use Rattle.std.specs.Prelude.{◌≡◌, [], length, take, MatchResult, slice_set};
     ghost use Rattle.stores.specs.Stores.{Accepted, Refused, Savable};
-    ghost use Rattle.trials.specs.Trials.{Numbered, CannotEnd};
+    ghost use Rattle.trials.specs.Saved.{Numbered};
+    ghost use Rattle.trials.specs.Trials.{CannotEnd};
     ghost use Rattle.trials.specs.TrialStores.{open_trials, TrialsApart, OpenAnswers, Rests, Undone, UndoAnswers, Kept, KeepAnswers};
 
     pub fn new(below: S) -> TrialStore<S>

@@ -1,6 +1,7 @@
 use Rattle.std.proofs.Common.{length, take, refl}
 use Rattle.std.proofs.lemmas.Result.{err_from_is_err_and}
-use Rattle.trials.specs.Trials.{trial, trials_of}
+use Rattle.trials.specs.Saved.{trial}
+use Rattle.trials.specs.Trials.{trials_of}
 use Rattle.trials.specs.Saving.{of_cells}
 use Rattle.trials.specs.Layers.{cannot_end_map, same_store, end_ends, end_sound, end_back, end_apart}
 use Rattle.trials.proofs.trial_store.TrialStore.take_back.Goals as goal
