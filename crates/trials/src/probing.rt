@@ -33,18 +33,6 @@ pub fn probe<S: Store>(
     ensures outcome { MatchResult result (λ some. MatchBool some (CanCap (S.cells store.old.below) cell rank) (CannotCap (S.cells store.old.below) cell rank) × (store.new.table.granted ≡ store.old.table.granted + 1)) (λ e. CannotOpen (open_trials store.old) store.old.table.granted e × (store.new ≡ store.old)) }
     ensures back { Back store.old store.new }
 {
-    cap_in_trial(store, cell, rank)
-}
-
-// Caps a cell in a trial, and undoes that.
-fn cap_in_trial<S: Store>(
-    store: &mut TrialStore<S>,
-    cell: usize,
-    rank: usize,
-) -> Result<bool, TrialFault>
-    ensures outcome { MatchResult result (λ some. MatchBool some (CanCap (S.cells store.old.below) cell rank) (CannotCap (S.cells store.old.below) cell rank) × (store.new.table.granted ≡ store.old.table.granted + 1)) (λ e. CannotOpen (open_trials store.old) store.old.table.granted e × (store.new ≡ store.old)) }
-    ensures back { Back store.old store.new }
-{
     let number = store.open()?;
     let some = cap(store, cell, rank);
     store.undo(number)?;

@@ -58,16 +58,6 @@ fn try_calls<S: Store>(store: &mut TrialStore<S>, calls: &[TrialCall]) -> Result
     Ok(number)
 }
 
-// Opens a trial, makes the calls, and undoes that trial.
-fn try_and_undo<S: Store>(store: &mut TrialStore<S>, calls: &[TrialCall]) -> Result<(), TrialFault>
-    ensures outcome { MatchResult result (λ _. Rehearsed calls.now store.old store.new) (λ e. NotRehearsed calls.now store.old store.new e) }
-    ensures back { OnOk result (Back store.old store.new) }
-{
-    let number = try_calls(store, calls)?;
-    store.undo(number)?;
-    Ok(())
-}
-
 // Rehearses the calls in a trial that is then undone, and answers how many trials are open. Where the undo is accepted, the
 // cells, the width and the open trials are those before, whatever was written, opened, undone and kept in between.
 pub fn rehearse<S: Store>(
@@ -77,6 +67,7 @@ pub fn rehearse<S: Store>(
     ensures outcome { MatchResult result (λ left. Rehearsed calls.now store.old store.new × (left ≡ length (open_trials store.new))) (λ e. NotRehearsed calls.now store.old store.new e) }
     ensures back { OnOk result (Back store.old store.new) }
 {
-    try_and_undo(store, calls)?;
+    let trial = try_calls(store, calls)?;
+    store.undo(trial)?;
     Ok(store.trials())
 }

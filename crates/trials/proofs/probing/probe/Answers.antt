@@ -1,7 +1,7 @@
 use Rattle.trials.specs.TrialStores.{open_trials}
 use Rattle.trials.specs.Ending.{apart_same}
 use Rattle.trials.proofs.Calls.{goes_back}
-use Rattle.trials.proofs.probing.cap_in_trial.Goals as goal
+use Rattle.trials.proofs.probing.probe.Goals as goal
 
 pub returns-clause-back : goal.returns-clause-back
 returns-clause-back g c =
