@@ -12,7 +12,7 @@ use Rattle.stores.specs.declared.faults.WriteFault.{WriteFault}
 use Rattle.trials.specs.Saved.{Trial, trial}
 use Rattle.trials.specs.Trials.{trials_of, NotAmong, Opens, CannotOpen, Ends, CannotEnd}
 use Rattle.trials.specs.Saving.{of_cells, trials_over, opened, Sound}
-use Rattle.trials.specs.TrialStores.{Apart, Rests}
+use Rattle.trials.specs.TrialStores.{open_trials, Apart, Closed, Undone, Rests}
 use Rattle.trials.specs.declared.saved.Saved.{Saved}
 use Rattle.trials.specs.declared.table.TrialTable.{TrialTable}
 use Rattle.trials.specs.declared.trial_store.TrialStore.{TrialStore}
@@ -76,31 +76,58 @@ module _ {S : Type 0} (m : Ghosts S) (b : S) (t u : TrialTable) (xs : List ℕ) 
     open_apart (Ok k) o = apart_opens t.granted (trials_over (length (m.cells b)) t) (opened k (m.cells b)) u.granted (trials_over (length (m.cells b)) u) (over k o)
     open_apart (Err e) o = same_apart (length (m.cells b)) t u o.1
 
--- a trial of the table ends, and the store below becomes c, of as many cells and the same width
-module _ {S : Type 0} (m : Ghosts S) (b c : S) (t u : TrialTable) (n : ℕ) (x : Saved)
-    (count : length (m.cells c) ≡ length (m.cells b)) (scale : m.width c ≡ m.width b) (e : Ends n (trials_of t) (trial x) (trials_of u)) where
-  pub end_ends : Ends n (trials_over (length (m.cells b)) t) (of_cells (length (m.cells b)) (trial x)) (trials_over (length (m.cells c)) u)
-  end_ends =
-      let f = of_cells (length (m.cells b)) in
-      subst (λ (k : ℕ). Ends n (map f (trials_of t)) (f (trial x)) (map (of_cells k) (trials_of u))) (sym count) (ends_map f n (trials_of t) (trial x) (trials_of u) refl e)
+-- a trial of the table ends
+module _ {S : Type 0} {m : Ghosts S} (s : TrialStore S m) (u : TrialTable) (n : ℕ) where
+  abbrev EndAnswered : Result Saved TrialFault → Type 0
+  EndAnswered r = MatchResult r (λ x. Ends n (trials_of s.table) (trial x) (trials_of u) × (u.granted ≡ s.table.granted)) (λ e. CannotEnd n (trials_of s.table) e × (u ≡ s.table))
 
-  pub end_sound : ∥ Sound m b t ∥₁ → ∥ Sound m c u ∥₁
-  end_sound s = ∥∥₁_map s (λ h.
-      let older = (ends_that (λ y. Savable m.holds (m.width b) (length (m.cells b)) y.masks) n (trials_of t) (trial x) (trials_of u) e h).1 in
-      subst (λ (k : ℕ). AllByRecursion (λ y. Savable m.holds (m.width c) k y.masks) (trials_of u)) (sym count)
-      (subst (λ (d : ℕ). AllByRecursion (λ y. Savable m.holds d (length (m.cells b)) y.masks) (trials_of u)) (sym scale) older))
+  pub end_sound : (r : Result Saved TrialFault) → EndAnswered r → ∥ Sound m s.below u ∥₁
+  end_sound (Ok x) o = ∥∥₁_map s.sound (λ h. (ends_that (λ y. Savable m.holds (m.width s.below) (length (m.cells s.below)) y.masks) n (trials_of s.table) (trial x) (trials_of u) o.0 h).1)
+  end_sound (Err e) o = subst (λ (v : TrialTable). ∥ Sound m s.below v ∥₁) (sym o.1) s.sound
 
-  -- its masks can be written back
-  pub end_back : ∥ Sound m b t ∥₁ → (ys : List ℕ) → (Savable m.holds (m.width b) (length (m.cells b)) x.masks → m.cells c ≡ ys) → m.cells c ≡ ys
-  end_back s ys f = ∥∥₁_elim s (Coded-set (coded_list coded_ℕ) (m.cells c) ys) (λ h. f (ends_that (λ y. Savable m.holds (m.width b) (length (m.cells b)) y.masks) n (trials_of t) (trial x) (trials_of u) e h).0)
+  module _ (h : ∥ Sound m s.below u ∥₁) where
+    abbrev ended : TrialStore S m
+    ended = record { below = s.below; table = u; sound = h }
 
-  pub end_apart : u.granted ≡ t.granted → Apart t.granted (trials_over (length (m.cells b)) t) u.granted (trials_over (length (m.cells c)) u)
-  end_apart q = apart_ends n t.granted (trials_over (length (m.cells b)) t) (of_cells (length (m.cells b)) (trial x)) u.granted (trials_over (length (m.cells c)) u) q end_ends
+    pub end_outcome : (r : Result Saved TrialFault) → EndAnswered r → MatchResult r (λ x. Closed n x s ended) (λ e. CannotEnd n (open_trials s) e × (ended ≡ s))
+    end_outcome (Ok x) o = record {
+      kept = record {
+        that = of_cells (length (m.cells s.below)) (trial x);
+        ends = ends_map (of_cells (length (m.cells s.below))) n (trials_of s.table) (trial x) (trials_of u) refl o.0;
+        below = refl;
+        granted = o.1;
+      };
+      saved = refl;
+      can = ∥∥₁_map s.sound (λ k. (ends_that (λ y. Savable m.holds (m.width s.below) (length (m.cells s.below)) y.masks) n (trials_of s.table) (trial x) (trials_of u) o.0 k).0);
+    }
+    end_outcome (Err e) o = (cannot_end_map (length (m.cells s.below)) n (trials_of s.table) e o.0, same_store ended s refl o.1)
 
-pub ended_sound : {S : Type 0} (m : Ghosts S) (b : S) (t u : TrialTable) (n : ℕ) (r : Result Saved TrialFault)
-    → MatchResult r (λ x. Ends n (trials_of t) (trial x) (trials_of u) × (u.granted ≡ t.granted)) (λ e. CannotEnd n (trials_of t) e × (u ≡ t)) → ∥ Sound m b t ∥₁ → ∥ Sound m b u ∥₁
-ended_sound m b t u n (Ok x) o h = end_sound m b b t u n x refl refl o.0 h
-ended_sound m b t u n (Err e) o h = subst (λ (v : TrialTable). ∥ Sound m b v ∥₁) (sym o.1) h
+  pub end_apart : (r : Result Saved TrialFault) → EndAnswered r → Apart s.table.granted (open_trials s) u.granted (trials_over (length (m.cells s.below)) u)
+  end_apart (Ok x) o = apart_ends n s.table.granted (open_trials s) (of_cells (length (m.cells s.below)) (trial x)) u.granted (trials_over (length (m.cells s.below)) u) o.1
+      (ends_map (of_cells (length (m.cells s.below))) n (trials_of s.table) (trial x) (trials_of u) refl o.0)
+  end_apart (Err e) o = same_apart (length (m.cells s.below)) s.table u o.1
+
+-- and then its masks are written back to the store below
+module _ {S : Type 0} {m : Ghosts S} (s t : TrialStore S m) (n : ℕ) (x : Saved) (o : Closed n x s t) (b : S) (count : length (m.cells b) ≡ length (m.cells t.below)) where
+  restored_ends : Ends n (open_trials s) o.kept.that (trials_over (length (m.cells b)) t.table)
+  restored_ends = subst (λ (k : ℕ). Ends n (open_trials s) o.kept.that (trials_over k t.table)) (sym count) o.kept.ends
+
+  pub restored_apart : Apart s.table.granted (open_trials s) t.table.granted (trials_over (length (m.cells b)) t.table)
+  restored_apart = apart_ends n s.table.granted (open_trials s) o.kept.that t.table.granted (trials_over (length (m.cells b)) t.table) o.kept.granted restored_ends
+
+  pub restored_undone : (h : ∥ Sound m b t.table ∥₁) → m.width b ≡ m.width t.below → m.stays t.below b
+      → (Savable m.holds (m.width t.below) (length (m.cells t.below)) x.masks → m.cells b ≡ take (length (m.cells t.below)) x.masks)
+      → Undone n s (record { below = b; table = t.table; sound = h })
+  restored_undone h scale stays same = record {
+    that = o.kept.that;
+    ends = restored_ends;
+    back = ∥∥₁_elim o.can (Coded-set (coded_list coded_ℕ) (m.cells b) (take (length (m.cells t.below)) x.masks)) same
+        ∙ ap (λ (c : S). take (length (m.cells c)) x.masks) o.kept.below ∙ sym (ap (λ (y : Trial). y.masks) o.saved);
+    count = count ∙ ap (λ (c : S). length (m.cells c)) o.kept.below;
+    scale = scale ∙ ap m.width o.kept.below;
+    rest = subst (λ (c : S). m.stays c b) o.kept.below stays;
+    granted = o.kept.granted;
+  }
 
 -- a write to the store below leaves the trials
 pub write_sound : {S : Type 0} (m : Ghosts S) (b c : S) (t : TrialTable) → length (m.cells c) ≡ length (m.cells b) → m.width c ≡ m.width b → ∥ Sound m b t ∥₁ → ∥ Sound m c t ∥₁

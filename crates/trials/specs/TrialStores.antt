@@ -1,9 +1,11 @@
 -- A store with trials: the open trials, the newest first, each with the cells as they were when it was opened.
 use Rattle.std.specs.Prelude.{◌≡◌, ℕ, ◌≤◌, List, length, Result, MatchResult}
 use Rattle.stores.specs.declared.store.Store.{Ghosts}
-use Rattle.trials.specs.Saved.{Trial}
+use Rattle.stores.specs.Stores.{Savable}
+use Rattle.trials.specs.Saved.{Trial, trial}
 use Rattle.trials.specs.Trials.{Opens, CannotOpen, Ends, CannotEnd}
-use Rattle.trials.specs.Saving.{trials_over, opened}
+use Rattle.trials.specs.Saving.{of_cells, trials_over, opened}
+use Rattle.trials.specs.declared.saved.Saved.{Saved}
 use Rattle.trials.specs.declared.faults.TrialFault.{TrialFault}
 use Rattle.trials.specs.declared.trial_store.TrialStore.{TrialStore}
 
@@ -34,6 +36,12 @@ module _ {S : Type 0} {m : Ghosts S} where
     pub ends : Ends number (open_trials s) that (open_trials t)
     pub below : t.below ≡ s.below
     pub granted : t.table.granted ≡ s.table.granted
+
+  -- the trial with a number ends, for which x is saved and can be written back
+  pub record Closed (number : ℕ) (x : Saved) (s t : TrialStore S m) : Type 0 where
+    pub kept : Kept number s t
+    pub saved : kept.that ≡ of_cells (length (m.cells s.below)) (trial x)
+    pub can : ∥ Savable m.holds (m.width t.below) (length (m.cells t.below)) x.masks ∥₁
 
   abbrev pub KeepAnswers : ℕ → TrialStore S m → TrialStore S m → Result ℕ TrialFault → Type 0
   KeepAnswers number s t r = MatchResult r (λ left. Kept number s t × (left ≡ length (open_trials t))) (λ fault. CannotEnd number (open_trials s) fault × (t ≡ s))

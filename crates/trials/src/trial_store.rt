@@ -2,6 +2,7 @@
 ghost use Rattle.trials.specs.Saving.{Sound};
 
 use crate::faults::TrialFault;
+use crate::saved::Saved;
 use crate::table::TrialTable;
 use domains::domain::Domain;
 use stores::copying::{restore, snapshot};
@@ -20,7 +21,7 @@ impl<S: Store> TrialStore<S> {
     ghost use Rattle.stores.specs.Stores.{Accepted, Refused, Savable};
     ghost use Rattle.trials.specs.Saved.{Numbered};
     ghost use Rattle.trials.specs.Trials.{CannotEnd};
-    ghost use Rattle.trials.specs.TrialStores.{open_trials, TrialsApart, OpenAnswers, Rests, Undone, UndoAnswers, Kept, KeepAnswers};
+    ghost use Rattle.trials.specs.TrialStores.{open_trials, TrialsApart, OpenAnswers, Rests, Closed, Undone, UndoAnswers, KeepAnswers};
 
     pub fn new(below: S) -> TrialStore<S>
         ensures below { result.below ≡ below }
@@ -59,6 +60,23 @@ impl<S: Store> TrialStore<S> {
         self.table.open(masks, 0)
     }
 
+    // Ends the trial with a number and all newer ones, and answers what was saved for it.
+    fn end(&mut self, number: u32) -> Result<Saved, TrialFault>
+        ensures outcome { MatchResult result (λ saved. Closed number saved self.old self.new) (λ e. CannotEnd number (open_trials self.old) e × (self.new ≡ self.old)) }
+        ensures apart { TrialsApart self.old self.new }
+    {
+        self.table.end(number)
+    }
+
+    // Leaves each cell as it is, ends the same trials as `undo`, and answers how many remain open.
+    pub fn keep(&mut self, number: u32) -> Result<usize, TrialFault>
+        ensures outcome { KeepAnswers number self.old self.new result }
+        ensures apart { TrialsApart self.old self.new }
+    {
+        self.end(number)?;
+        Ok(self.trials())
+    }
+
     // Gives each cell the set that it had when the trial was opened, ends that trial and all newer ones, and answers how many
     // remain open.
     pub fn undo(&mut self, number: u32) -> Result<usize, TrialFault>
@@ -73,25 +91,8 @@ impl<S: Store> TrialStore<S> {
         ensures outcome { MatchResult result (λ _. Undone number self.old self.new) (λ e. CannotEnd number (open_trials self.old) e × (self.new ≡ self.old)) }
         ensures apart { TrialsApart self.old self.new }
     {
-        let saved = self.table.end(number)?;
+        let saved = self.end(number)?;
         restore(&mut self.below, &saved.masks);
-        Ok(())
-    }
-
-    // Leaves each cell as it is, ends the same trials as `undo`, and answers how many remain open.
-    pub fn keep(&mut self, number: u32) -> Result<usize, TrialFault>
-        ensures outcome { KeepAnswers number self.old self.new result }
-        ensures apart { TrialsApart self.old self.new }
-    {
-        self.let_stand(number)?;
-        Ok(self.trials())
-    }
-
-    fn let_stand(&mut self, number: u32) -> Result<(), TrialFault>
-        ensures outcome { MatchResult result (λ _. Kept number self.old self.new) (λ e. CannotEnd number (open_trials self.old) e × (self.new ≡ self.old)) }
-        ensures apart { TrialsApart self.old self.new }
-    {
-        self.table.end(number)?;
         Ok(())
     }
 
