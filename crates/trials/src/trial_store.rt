@@ -51,7 +51,7 @@ impl<S: Store> TrialStore<S> {
         self.begin(masks)
     }
 
-    // Opens a trial for which the present masks are saved.
+    // Opens a trial for which the present masks are saved: what `end` is to the table, and so apart from the snapshot.
     fn begin(&mut self, masks: [u64; 64]) -> Result<u32, TrialFault>
         requires { (take (length (S.cells self.old.below)) masks ≡ S.cells self.old.below) × (Savable S.holds (S.width self.old.below) (length (S.cells self.old.below)) masks) }
         ensures outcome { OpenAnswers self.old self.new result }
@@ -79,24 +79,18 @@ impl<S: Store> TrialStore<S> {
 
     // Gives each cell the set that it had when the trial was opened, ends that trial and all newer ones, and answers how many
     // remain open.
+    #[tactic(auto, using(crate::specs::Layers::restored_undone, crate::specs::Layers::restored_apart, crate::specs::Layers::write_sound))]
     pub fn undo(&mut self, number: u32) -> Result<usize, TrialFault>
         ensures outcome { UndoAnswers number self.old self.new result }
         ensures apart { TrialsApart self.old self.new }
     {
-        self.take_back(number)?;
+        let saved = self.end(number)?;
+        restore(&mut self.below, &saved.masks);
         Ok(self.trials())
     }
 
-    fn take_back(&mut self, number: u32) -> Result<(), TrialFault>
-        ensures outcome { MatchResult result (λ _. Undone number self.old self.new) (λ e. CannotEnd number (open_trials self.old) e × (self.new ≡ self.old)) }
-        ensures apart { TrialsApart self.old self.new }
-    {
-        let saved = self.end(number)?;
-        restore(&mut self.below, &saved.masks);
-        Ok(())
-    }
-
-    // A write while trials are open is a plain write to the store below.
+    // A write while trials are open is a plain write to the store below. Apart from `write`: that a refused one leaves the whole as
+    // it was takes a lemma by name, and in `write` itself an edit would be refused at that lemma's use.
     fn pass_on(&mut self, cell: usize, part: Domain) -> Result<(), WriteFault>
         ensures outcome { MatchResult result (λ _. Accepted S.holds (length (S.cells self.old.below)) (S.width self.old.below) cell part.mask × (S.cells self.new.below ≡ slice_set (S.cells self.old.below) cell part.mask)) (λ e. Refused S.holds (length (S.cells self.old.below)) (S.width self.old.below) cell part.mask e × (self.new ≡ self.old)) }
         ensures width { S.width self.new.below ≡ S.width self.old.below }
