@@ -11,7 +11,7 @@ use Rattle.trials.specs.declared.trial_store.TrialStore.{TrialStore}
 use Rattle.trials.specs.declared.faults.TrialFault.{TrialFault}
 use Rattle.trials.specs.declared.rehearsal.TrialCall.{TrialCall}
 use Rattle.trials.specs.declared.rehearsal.TrialCall.TheVariants.{Write, Open, Undo, Keep}
-use Rattle.trials.specs.Ending.{ends_front, next_new, numbered_map, apart_same, apart_opens, apart_ends, apart_then}
+use Rattle.trials.proofs.Ending.{ends_front, next_new, numbered_map, apart_same, apart_opens, apart_ends, apart_then}
 
 module _ {S : Type 0} {m : Ghosts S} where
   -- one more call

@@ -5,5 +5,3 @@ pub mod Saved
 pub mod Saving
 pub mod TrialStores
 pub mod Trials
-pub mod Layers
-pub mod Ending

@@ -34,7 +34,7 @@ impl<S: Store> TrialStore<S> {
     }
 
     // How many trials are open.
-    #[tactic(auto, using(crate::specs::Ending::numbered_map))]
+    #[tactic(auto, using(crate::proofs::Ending::numbered_map))]
     pub fn trials(&self) -> usize
         ensures count { result ≡ length (open_trials self.now) }
         ensures numbered { Numbered self.now.table.granted (open_trials self.now) }
@@ -79,7 +79,7 @@ impl<S: Store> TrialStore<S> {
 
     // Gives each cell the set that it had when the trial was opened, ends that trial and all newer ones, and answers how many
     // remain open.
-    #[tactic(auto, using(crate::specs::Layers::restored_undone, crate::specs::Layers::restored_apart, crate::specs::Layers::write_sound))]
+    #[tactic(auto, using(crate::proofs::Layers::restored_undone, crate::proofs::Layers::restored_apart, crate::proofs::Layers::write_sound))]
     pub fn undo(&mut self, number: u32) -> Result<usize, TrialFault>
         ensures outcome { UndoAnswers number self.old self.new result }
         ensures apart { TrialsApart self.old self.new }
@@ -104,7 +104,7 @@ impl<S: Store> Store for TrialStore<S> {
     ghost use Rattle.std.specs.Prelude.{◌≡◌, [], MatchResult};
     ghost use Rattle.stores.specs.Stores.{Sized, LaidOut};
     ghost use Rattle.trials.specs.TrialStores.{open_trials, Rests};
-    ghost use Rattle.trials.specs.Layers.{rests_same, rests_then};
+    ghost use Rattle.std.proofs.Common.{refl, ◌∙◌};
 
     ghost cells = { λ s. S.cells s.below };
 
@@ -120,8 +120,8 @@ impl<S: Store> Store for TrialStore<S> {
           full = laws.full;
           front = laws.front;
           rear = laws.rear;
-          same = λ s. (laws.same s.below, rests_same s);
-          then = λ s t u p q. (laws.then s.below t.below u.below p.0 q.0, rests_then s t u p.1 q.1);
+          same = λ s. (laws.same s.below, record { trials = refl; granted = refl });
+          then = λ s t u p q. (laws.then s.below t.below u.below p.0 q.0, record { trials = q.1.trials ∙ p.1.trials; granted = q.1.granted ∙ p.1.granted });
         } };
 
     // Where it is accepted, it ends all trials; their numbers stay granted.

@@ -1,5 +1,5 @@
 use Rattle.trials.specs.TrialStores.{open_trials}
-use Rattle.trials.specs.Ending.{apart_same}
+use Rattle.trials.proofs.Ending.{apart_same}
 use Rattle.trials.proofs.Calls.{goes_back}
 use Rattle.trials.proofs.probing.probe.Goals as goal
 

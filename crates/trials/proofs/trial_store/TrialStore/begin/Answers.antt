@@ -1,5 +1,5 @@
 use Rattle.std.proofs.Common.{refl}
-use Rattle.trials.specs.Layers.{same_store, open_outcome, open_sound, open_apart}
+use Rattle.trials.proofs.Layers.{same_store, open_outcome, open_sound, open_apart}
 use Rattle.trials.proofs.trial_store.TrialStore.begin.Goals as goal
 
 pub invariant_of-self : goal.invariant_of-self

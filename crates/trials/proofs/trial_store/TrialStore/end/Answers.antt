@@ -1,4 +1,4 @@
-use Rattle.trials.specs.Layers.{end_sound, end_outcome, end_apart}
+use Rattle.trials.proofs.Layers.{end_sound, end_outcome, end_apart}
 use Rattle.trials.proofs.trial_store.TrialStore.end.Goals as goal
 
 pub invariant_of-self : goal.invariant_of-self

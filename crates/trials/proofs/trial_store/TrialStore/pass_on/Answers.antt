@@ -1,6 +1,6 @@
 use Rattle.std.proofs.Common.{ℕ, refl, ap}
 use Rattle.trials.specs.Saving.{trials_over}
-use Rattle.trials.specs.Layers.{same_store, write_sound, write_count, write_outcome}
+use Rattle.trials.proofs.Layers.{same_store, write_sound, write_count, write_outcome}
 use Rattle.trials.proofs.trial_store.TrialStore.pass_on.Goals as goal
 
 pub invariant_of-self : goal.invariant_of-self

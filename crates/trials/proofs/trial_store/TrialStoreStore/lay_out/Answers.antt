@@ -1,6 +1,6 @@
 use Rattle.std.proofs.Common.{refl}
 use Rattle.std.proofs.lemmas.Result.{err_from_is_err_and}
-use Rattle.trials.specs.Layers.{same_store}
+use Rattle.trials.proofs.Layers.{same_store}
 use Rattle.trials.proofs.trial_store.TrialStoreStore.lay_out.Goals as goal
 
 pub returns-in_err-lay_out-clause-outcome : goal.returns-in_err-lay_out-clause-outcome

@@ -12,13 +12,13 @@ use Rattle.stores.specs.declared.faults.WriteFault.{WriteFault}
 use Rattle.trials.specs.Saved.{Trial, trial}
 use Rattle.trials.specs.Trials.{trials_of, NotAmong, Opens, CannotOpen, Ends, CannotEnd}
 use Rattle.trials.specs.Saving.{of_cells, trials_over, opened, Sound}
-use Rattle.trials.specs.TrialStores.{open_trials, Apart, Closed, Undone, Rests}
+use Rattle.trials.specs.TrialStores.{open_trials, Apart, Closed, Undone}
 use Rattle.trials.specs.declared.saved.Saved.{Saved}
 use Rattle.trials.specs.declared.table.TrialTable.{TrialTable}
 use Rattle.trials.specs.declared.trial_store.TrialStore.{TrialStore}
 use Rattle.trials.specs.declared.faults.TrialFault.{TrialFault}
 use Rattle.trials.specs.declared.faults.TrialFault.TheVariants.{TooManyOpen, AllGranted, NotOpen}
-use Rattle.trials.specs.Ending.{ends_that, ends_map, apart_same, apart_opens, apart_ends}
+use Rattle.trials.proofs.Ending.{ends_that, ends_map, apart_same, apart_opens, apart_ends}
 
 cannot_open_map : (f : Trial → Trial) (xs : List Trial) (g : ℕ) (e : TrialFault) → CannotOpen xs g e → CannotOpen (map f xs) g e
 cannot_open_map f xs g TooManyOpen h = omega (arith, h, length-map xs f)
@@ -149,9 +149,3 @@ pub write_outcome : {S : Type 0} (m : Ghosts S) (b c : S) (cell mask : ℕ) (r :
     (λ e. Refused m.holds (length (m.cells b)) (m.width b) cell mask e × X)
 write_outcome m b c cell mask (Ok x) X f o = o
 write_outcome m b c cell mask (Err e) X f o = (o.0, f o.1)
-
-pub rests_same : {S : Type 0} {m : Ghosts S} (s : TrialStore S m) → Rests s s
-rests_same s = record { trials = refl; granted = refl }
-
-pub rests_then : {S : Type 0} {m : Ghosts S} (s t u : TrialStore S m) → Rests s t → Rests t u → Rests s u
-rests_then s t u p q = record { trials = q.trials ∙ p.trials; granted = q.granted ∙ p.granted }
