@@ -10,7 +10,7 @@ use crate::trial_store::TrialStore;
 use domains::domain::Domain;
 use stores::store::Store;
 
-// A call on a store with trials.
+// A call on a store with trials: data and no closure, since `rehearse` is promised of any list of calls, and a reader sees here which.
 #[derive(Clone, Copy)]
 pub enum TrialCall {
     Write { cell: usize, part: Domain },

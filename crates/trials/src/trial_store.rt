@@ -9,6 +9,8 @@ use stores::copying::{restore, snapshot};
 use stores::faults::{LayOutFault, WriteFault};
 use stores::store::{Size, Store};
 
+// What is saved for each open trial can be written back to the store below, always: only a lay out changes the cells' number or the
+// width, and it ends the trials.
 #[derive(Drop)]
 pub struct TrialStore<S: Store> {
     below: S,
