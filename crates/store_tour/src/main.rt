@@ -8,57 +8,50 @@ use stores::bounds_store::BoundsStore;
 use stores::store::Store;
 use trials::trial_store::TrialStore;
 
-fn lay_out<S: Store>(rt: &HostRuntime, store: &mut S, n: usize, d: usize) -> io::Result<()> {
-    match store.lay_out(n, d) {
-        Ok(()) => println!(rt; "lay out {n} cells, {d} ranks: done"),
+// What a call answered: in its own words where it was accepted, and else the number of the refusal.
+fn tell<T, E: Into<u8>, F: FnOnce(T) -> io::Result<()>>(
+    rt: &HostRuntime,
+    answer: Result<T, E>,
+    accepted: F,
+) -> io::Result<()>
+    requires { F.IsAlwaysCallable accepted }
+{
+    match answer {
+        Ok(value) => accepted(value),
         Err(fault) => {
-            let number = u8::from(fault);
-            println!(rt; "lay out {n} cells, {d} ranks: refused, {number}")
+            let number: u8 = fault.into();
+            println!(rt; "refused, {number}")
         }
     }
+}
+
+fn lay_out<S: Store>(rt: &HostRuntime, store: &mut S, n: usize, d: usize) -> io::Result<()> {
+    print!(rt; "lay out {n} cells, {d} ranks: ")?;
+    tell(rt, store.lay_out(n, d), |()| println!(rt; "done"))
 }
 
 fn write<S: Store>(rt: &HostRuntime, store: &mut S, cell: usize, mask: u64) -> io::Result<()> {
     let Some(part) = Domain::new(mask) else {
         return println!(rt; "{mask} is no set");
     };
-    match store.write(cell, part) {
-        Ok(()) => println!(rt; "write {mask} to cell {cell}: done"),
-        Err(fault) => {
-            let number = u8::from(fault);
-            println!(rt; "write {mask} to cell {cell}: refused, {number}")
-        }
-    }
+    print!(rt; "write {mask} to cell {cell}: ")?;
+    tell(rt, store.write(cell, part), |()| println!(rt; "done"))
 }
 
 fn open<S: Store>(rt: &HostRuntime, store: &mut TrialStore<S>) -> io::Result<()> {
-    match store.open() {
-        Ok(number) => println!(rt; "open: trial {number}"),
-        Err(fault) => {
-            let number = fault.number();
-            println!(rt; "open: refused, {number}")
-        }
-    }
+    print!(rt; "open: ")?;
+    tell(rt, store.open(), |number| println!(rt; "trial {number}"))
 }
 
-fn undo<S: Store>(rt: &HostRuntime, store: &mut TrialStore<S>, number: u32) -> io::Result<()> {
-    match store.undo(number) {
-        Ok(left) => println!(rt; "undo trial {number}: done, {left} open"),
-        Err(fault) => {
-            let why = fault.number();
-            println!(rt; "undo trial {number}: refused, {why}")
-        }
-    }
-}
-
-fn keep<S: Store>(rt: &HostRuntime, store: &mut TrialStore<S>, number: u32) -> io::Result<()> {
-    match store.keep(number) {
-        Ok(left) => println!(rt; "keep trial {number}: done, {left} open"),
-        Err(fault) => {
-            let why = fault.number();
-            println!(rt; "keep trial {number}: refused, {why}")
-        }
-    }
+// Ends a trial by one of the two calls that do.
+fn end<E: Into<u8> + Drop>(
+    rt: &HostRuntime,
+    call: &str,
+    number: u32,
+    answer: Result<usize, E>,
+) -> io::Result<()> {
+    print!(rt; "{call} trial {number}: ")?;
+    tell(rt, answer, |left| println!(rt; "done, {left} open"))
 }
 
 // The sets of the cells, each as its ranks.
@@ -73,10 +66,8 @@ fn show<S: Store>(rt: &HostRuntime, store: &S) -> io::Result<()> {
 
 fn show_cell(rt: &HostRuntime, cell: usize, part: Domain) -> io::Result<()> {
     print!(rt; "  cell {cell} has ranks")?;
-    for rank in 0..48usize {
-        if part.contains(rank) {
-            print!(rt; " {rank}")?;
-        }
+    for rank in (0..48).filter(|&rank| part.contains(rank)) {
+        print!(rt; " {rank}")?;
     }
     println!(rt; "")
 }
@@ -90,18 +81,18 @@ fn morning<S: Store>(rt: &HostRuntime, store: &mut TrialStore<S>) -> io::Result<
     open(rt, store)?;
     write(rt, store, 1, 4)?;
     show(rt, store)?;
-    undo(rt, store, 1)?;
+    end(rt, "undo", 1, store.undo(1))?;
     show(rt, store)
 }
 
 fn afternoon<S: Store>(rt: &HostRuntime, store: &mut TrialStore<S>) -> io::Result<()> {
-    keep(rt, store, 2)?;
+    end(rt, "keep", 2, store.keep(2))?;
     open(rt, store)?;
     write(rt, store, 1, 6)?;
-    keep(rt, store, 3)?;
+    end(rt, "keep", 3, store.keep(3))?;
     write(rt, store, 7, 1)?;
     write(rt, store, 0, 8)?;
-    undo(rt, store, 3)?;
+    end(rt, "undo", 3, store.undo(3))?;
     show(rt, store)
 }
 

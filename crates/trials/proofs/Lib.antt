@@ -1,3 +1,5 @@
 pub mod Calls
 pub mod Capping
+pub mod Ending
+pub mod Layers
 pub mod Places

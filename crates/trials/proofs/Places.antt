@@ -1,80 +1,67 @@
 -- The open trials by the places of the table.
-use Rattle.std.proofs.Common.{◌≡◌, ℕ, zero, suc, ◌+◌, ◌<◌, ◌≤◌, ◌⊎◌, List, [], ◌∷◌, length, set, sym, refl, ap, ◌∙◌, ap₂, inl, inr, arith}
-use Rattle.std.specs.List.{AllByRecursion}
-use Rattle.std.proofs.lemmas.List.{get_or-set_same, get_or-set_other}
-use Rattle.std.proofs.lemmas.Bool.{cases_eq}
-use Rattle.trials.specs.Saved.{nothing, at, number_at}
-use Rattle.trials.specs.Trials.{Trial, trial, trials_below, Numbered, Ends}
+use Rattle.std.proofs.Common.{◌≡◌, ℕ, zero, suc, ◌+◌, ◌<◌, List, [], ◌∷◌, ◌++◌, length, take, drop, map, reverse, sym, ap, ◌∙◌, subst, append_assoc, arith, ◌≢◌}
+use Rattle.std.specs.Prelude.{Option, Some, None, MatchOption, nat_eq}
+use Rattle.std.specs.List.{AllByRecursion, position}
+use Rattle.std.proofs.lemmas.Grind.{common_steps}
+use Rattle.std.proofs.lemmas.List.Quantifiers.{position-Some}
+use Rattle.std.proofs.lemmas.List.Sums.{fails_before_first}
+use Rattle.std.proofs.lemmas.List.{reverse-append, map-append, take-append-drop}
+use Rattle.std.proofs.Math.Seq.{split_at}
+use Rattle.trials.specs.Saved.{Trial, trial, trials_from, at, Numbered}
+use Rattle.trials.specs.Trials.{NotAmong, Ends}
 use Rattle.trials.specs.declared.saved.Saved.{Saved}
 
-pub count_below : (ss : List Saved) (n : ℕ) → length (trials_below ss n) ≡ n
-count_below ss zero = refl
-count_below ss (suc n) = ap suc (count_below ss n)
+from_append : (os ns : List Saved) → trials_from (os ++ ns) ≡ trials_from ns ++ trials_from os
+from_append os ns = ap (map trial) (reverse-append os ns) ∙ map-append trial (reverse ns) (reverse os)
 
-pub below_more : (ss : List Saved) (n : ℕ) → trials_below ss (n + 1) ≡ trial (at ss n) ∷ trials_below ss n
-below_more ss n = let e : n + 1 ≡ suc n = omega arith in ap (trials_below ss) e
-
--- what holds at each place holds of each trial
-pub each_below : (P : Trial → Type 0) (ss : List Saved) (n : ℕ) → ((k : ℕ) → k < n → P (trial (at ss k))) → AllByRecursion P (trials_below ss n)
-each_below P ss zero f = tt
-each_below P ss (suc n) f = (f n (omega arith), each_below P ss n (λ k h. f k (omega (arith, h))))
-
-pub numbered_below : (g : ℕ) (ss : List Saved) (n : ℕ) → ((k : ℕ) → k < n → 1 ≤ number_at ss k) → ((k : ℕ) → k < n → number_at ss k ≤ g)
-    → ((j k : ℕ) → j < k → k < n → number_at ss j < number_at ss k) → Numbered g (trials_below ss n)
-numbered_below g ss zero some fresh rising = tt
-numbered_below g ss (suc n) some fresh rising = (
-  some n (omega arith),
-  fresh n (omega arith),
-  each_below (λ y. y.number < number_at ss n) ss n (λ k h. rising k n h (omega arith)),
-  numbered_below g ss n (λ k h. some k (omega (arith, h))) (λ k h. fresh k (omega (arith, h))) (λ j k h i. rising j k h (omega (arith, i))),
-)
-
--- a write at a later place leaves them
-pub below_set : (ss : List Saved) (n m : ℕ) (x : Saved) → n ≤ m → trials_below (set ss m x) n ≡ trials_below ss n
-below_set ss zero m x h = refl
-below_set ss (suc n) m x h =
-    let e : n ≡ m → ⊥ = λ q. omega (arith, h, q) in
-    ap₂ (λ (y : Saved) (ys : List Trial). trial y ∷ ys) (get_or-set_other ss m n x nothing e) (below_set ss n m x (omega (arith, h)))
+-- the newer ones, the one at a place, and the older ones
+pub around : (os ns : List Saved) (x : Saved) → trials_from (os ++ (x ∷ ns)) ≡ trials_from ns ++ (trial x ∷ trials_from os)
+around os ns x = from_append os (x ∷ ns) ∙ ap (λ (xs : List Trial). xs ++ trials_from os) (from_append (x ∷ []) ns) ∙ append_assoc (trials_from ns) (trial x ∷ []) (trials_from os)
 
 -- one more is put behind
-pub below_put : (ss : List Saved) (n : ℕ) (x : Saved) → n < length ss → trials_below (set ss n x) (n + 1) ≡ trial x ∷ trials_below ss n
-below_put ss n x h = below_more (set ss n x) n ∙ ap₂ (λ (y : Saved) (ys : List Trial). trial y ∷ ys) (get_or-set_same ss n x nothing h) (below_set ss n n x (omega arith))
+pub front_put : (ss : List Saved) (x : Saved) → trials_from (ss ++ x ∷ []) ≡ trial x ∷ trials_from ss
+front_put ss x = around ss [] x
 
 -- the trial at a place, and the older ones
-pub ends_below : (ss : List Saved) (t n p : ℕ) → p < n → number_at ss p ≡ t → Ends t (trials_below ss n) (trial (at ss p)) (trials_below ss p)
-ends_below ss t zero p h q = absurd (omega (arith, h))
-ends_below ss t (suc n) p h q = go (ends_below ss t n p) (cases_eq p n)
-  where
-    go : (p < n → number_at ss p ≡ t → Ends t (trials_below ss n) (trial (at ss p)) (trials_below ss p)) → (p ≡ n) ⊎ (p ≡ n → ⊥)
-        → Ends t (trials_below ss (suc n)) (trial (at ss p)) (trials_below ss p)
-    go f (inl e) = record { newer = []; split = ap (λ (k : ℕ). trial (at ss k) ∷ trials_below ss k) (sym e); named = q }
-    go f (inr ne) =
-        let w = f (omega (arith, h, ne)) q in
-        record { newer = trial (at ss n) ∷ w.newer; split = ap (λ (xs : List Trial). trial (at ss n) ∷ xs) w.split; named = q }
+pub ends_at : (ss : List Saved) (t p : ℕ) → p < length ss → (at ss p).number ≡ t → Ends t (trials_from ss) (trial (at ss p)) (trials_from (take p ss))
+ends_at ss t p h q = record {
+  newer = trials_from (drop (suc p) ss);
+  split = ap trials_from (split_at ss p _ h) ∙ around (take p ss) (drop (suc p) ss) (at ss p);
+  named = q;
+}
 
--- the numbers after one more is put behind
-number_put : (ss : List Saved) (n : ℕ) (x : Saved) (k : ℕ) → n < length ss
-    → ((k ≡ n) × (number_at (set ss n x) k ≡ x.number)) ⊎ ((k ≡ n → ⊥) × (number_at (set ss n x) k ≡ number_at ss k))
-number_put ss n x k h = go (cases_eq k n)
-  where
-    go : (k ≡ n) ⊎ (k ≡ n → ⊥) → ((k ≡ n) × (number_at (set ss n x) k ≡ x.number)) ⊎ ((k ≡ n → ⊥) × (number_at (set ss n x) k ≡ number_at ss k))
-    go (inl e) = inl (e, ap (number_at (set ss n x)) e ∙ ap (λ (y : Saved). y.number) (get_or-set_same ss n x nothing h))
-    go (inr ne) = inr (ne, ap (λ (y : Saved). y.number) (get_or-set_other ss n k x nothing ne))
+all_behind : (P : Trial → Type 0) (xs : List Trial) (y : Trial) → AllByRecursion P xs → P y → AllByRecursion P (xs ++ y ∷ [])
+all_behind P [] y h p = (p, tt)
+all_behind P (x ∷ xs) y h p = (h.0, all_behind P xs y h.1 p)
 
-module _ (ss : List Saved) (n g : ℕ) (x : Saved) (h : n < length ss) (q : x.number ≡ g + 1) where
-  pub some_put : ((k : ℕ) → k < n → 1 ≤ number_at ss k) → (k : ℕ) → k < n + 1 → 1 ≤ number_at (set ss n x) k
-  some_put f k l = elim (number_put ss n x k h) [ inl w ↦ omega (arith, w.1) | inr w ↦ omega (arith, w.1, f k (omega (arith, l, w.0))) ]
+-- what holds at each place holds of each trial
+each_from : (P : Trial → Type 0) (ss : List Saved) → ((k : ℕ) → k < length ss → P (trial (at ss k))) → AllByRecursion P (trials_from ss)
+each_from P [] f = tt
+each_from P (s ∷ ss) f = rw (around [] ss s) (all_behind P (trials_from ss) (trial s) (each_from P ss (λ k h. f (suc k) (omega (arith, h)))) (f zero (omega arith)))
 
-  pub fresh_put : ((k : ℕ) → k < n → number_at ss k ≤ g) → (k : ℕ) → k < n + 1 → number_at (set ss n x) k ≤ g + 1
-  fresh_put f k l = elim (number_put ss n x k h) [ inl w ↦ omega (arith, w.1) | inr w ↦ omega (arith, w.1, f k (omega (arith, l, w.0))) ]
+-- the first place with a number is that of the trial that ends
+pub placed : (ss : List Saved) (t : ℕ) (r : Option ℕ) → r ≡ position (λ s. nat_eq s.number t) ss
+    → MatchOption r (NotAmong t (trials_from ss)) (λ p. (p < length ss) × Ends t (trials_from ss) (trial (at ss p)) (trials_from (take p ss)))
+placed ss t None e = each_from (λ x. x.number ≢ t) ss (λ k h q. let f = fails_before_first (λ s. nat_eq s.number t) ss k (at [] 0) in grind (arith, common_steps))
+placed ss t (Some p) e = let w = position-Some (λ s. nat_eq s.number t) ss p (at [] 0) (sym e) in (w.0, ends_at ss t p w.0 (grind (arith, w.1)))
 
-  pub rising_put : ((k : ℕ) → k < n → number_at ss k ≤ g) → ((j k : ℕ) → j < k → k < n → number_at ss j < number_at ss k)
-      → (j k : ℕ) → j < k → k < n + 1 → number_at (set ss n x) j < number_at (set ss n x) k
-  rising_put f r j k l i = go (number_put ss n x j h) (number_put ss n x k h)
-    where
-      go : ((j ≡ n) × (number_at (set ss n x) j ≡ x.number)) ⊎ ((j ≡ n → ⊥) × (number_at (set ss n x) j ≡ number_at ss j))
-          → ((k ≡ n) × (number_at (set ss n x) k ≡ x.number)) ⊎ ((k ≡ n → ⊥) × (number_at (set ss n x) k ≡ number_at ss k))
-          → number_at (set ss n x) j < number_at (set ss n x) k
-      go (inl a) w = absurd (omega (arith, a.0))
-      go (inr a) (inl b) = omega (arith, a.1, b.1, f j (omega (arith, b.0)))
-      go (inr a) (inr b) = omega (arith, a.1, b.1, r j k l (omega (arith, i, b.0)))
+-- the numbers of the older ones, and those with one more
+pub numbered_rear : (g : ℕ) (newer older : List Trial) → Numbered g (newer ++ older) → Numbered g older
+numbered_rear g [] older h = h
+numbered_rear g (x ∷ newer) older h = numbered_rear g newer older h.3
+
+below_next : (g : ℕ) (xs : List Trial) → Numbered g xs → AllByRecursion (λ y. y.number < g + 1) xs
+below_next g [] h = tt
+below_next g (x ∷ xs) h = (omega (arith, h.1), below_next g xs h.3)
+
+more_granted : (g : ℕ) (xs : List Trial) → Numbered g xs → Numbered (g + 1) xs
+more_granted g [] h = tt
+more_granted g (x ∷ xs) h = (h.0, omega (arith, h.1), h.2, more_granted g xs h.3)
+
+pub numbered_front : (g : ℕ) (x : Trial) (xs : List Trial) → x.number ≡ g + 1 → Numbered g xs → Numbered (g + 1) (x ∷ xs)
+numbered_front g x xs q h = (omega (arith, q), omega (arith, q), rw q (below_next g xs h), more_granted g xs h)
+
+-- a place past the end cuts nothing
+pub numbered_cut : (g : ℕ) (ss : List Saved) (p : ℕ) → Numbered g (trials_from ss) → Numbered g (trials_from (take p ss))
+numbered_cut g ss p n =
+    numbered_rear g (trials_from (drop p ss)) (trials_from (take p ss)) (subst (Numbered g) (ap trials_from (sym (take-append-drop p ss)) ∙ from_append (take p ss) (drop p ss)) n)

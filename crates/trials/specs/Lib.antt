@@ -2,7 +2,6 @@ pub mod Caps
 pub mod Faults
 pub mod Rehearsals
 pub mod Saved
+pub mod Saving
 pub mod TrialStores
 pub mod Trials
-pub mod Layers
-pub mod Ending

@@ -2,62 +2,63 @@
 use Rattle.std.specs.Prelude.{◌≡◌, ℕ, ◌+◌, List, [], ◌∷◌, length, Ok, Result, MatchResult, slice_set}
 use Rattle.stores.specs.Stores.{Accepted, Refused}
 use Rattle.stores.specs.declared.faults.WriteFault.{WriteFault}
+use Rattle.stores.specs.declared.store.Store.{Ghosts}
 use Rattle.trials.specs.Trials.{NotAmong, CannotOpen}
-use Rattle.trials.specs.TrialStores.{open_trials, OpenAnswers, KeepAnswers, Sound, Rests, Undone, UndoAnswers}
+use Rattle.trials.specs.TrialStores.{open_trials, OpenAnswers, KeepAnswers, Rests, Undone, UndoAnswers}
 use Rattle.trials.specs.declared.trial_store.TrialStore.{TrialStore}
 use Rattle.trials.specs.declared.faults.TrialFault.{TrialFault}
 use Rattle.trials.specs.declared.faults.TrialFault.TheVariants.{TooManyOpen, AllGranted, NotOpen}
 use Rattle.trials.specs.declared.rehearsal.TrialCall.{TrialCall}
 use Rattle.trials.specs.declared.rehearsal.TrialCall.TheVariants.{Write, Open, Undo, Keep}
 
-module _ {S : Type 0} (cells : S → List ℕ) (width : S → ℕ) (holds : ℕ → ℕ → Type 0) (stays : S → S → Type 0) where
-  -- a write of the set m to a cell, as on any store; the trials stay
-  pub record Writes (cell m : ℕ) (s t : TrialStore S) (r : Result Unit WriteFault) : Type 0 where
-    pub outcome : MatchResult r (λ _. Accepted holds (length (cells s.below)) (width s.below) cell m × (cells t.below ≡ slice_set (cells s.below) cell m))
-        (λ fault. Refused holds (length (cells s.below)) (width s.below) cell m fault × (t ≡ s))
-    pub scale : width t.below ≡ width s.below
-    pub rest : Rests cells width holds s t
+module _ {S : Type 0} {m : Ghosts S} where
+  -- a write of a set to a cell, as on any store; the trials stay
+  pub record Writes (cell mask : ℕ) (s t : TrialStore S m) (r : Result Unit WriteFault) : Type 0 where
+    pub outcome : MatchResult r (λ _. Accepted m.holds (length (m.cells s.below)) (m.width s.below) cell mask × (m.cells t.below ≡ slice_set (m.cells s.below) cell mask))
+        (λ fault. Refused m.holds (length (m.cells s.below)) (m.width s.below) cell mask fault × (t ≡ s))
+    pub scale : m.width t.below ≡ m.width s.below
+    pub rest : Rests s t
 
   -- a call, with some answer, takes s to t
-  abbrev pub Step : TrialCall → TrialStore S → TrialStore S → Type 0
+  abbrev pub Step : TrialCall → TrialStore S m → TrialStore S m → Type 0
   Step (Write cell part) s t = (r : Result Unit WriteFault) × Writes cell part.mask s t r
-  Step Open s t = (r : Result ℕ TrialFault) × OpenAnswers cells s t r
-  Step (Undo number) s t = (r : Result ℕ TrialFault) × UndoAnswers cells width holds stays number s t r
-  Step (Keep number) s t = (r : Result ℕ TrialFault) × KeepAnswers cells number s t r
+  Step Open s t = (r : Result ℕ TrialFault) × OpenAnswers s t r
+  Step (Undo number) s t = (r : Result ℕ TrialFault) × UndoAnswers number s t r
+  Step (Keep number) s t = (r : Result ℕ TrialFault) × KeepAnswers number s t r
 
   -- the calls, one after another, take s to t
-  abbrev pub Ran : List TrialCall → TrialStore S → TrialStore S → Type 0
+  abbrev pub Ran : List TrialCall → TrialStore S m → TrialStore S m → Type 0
   Ran [] s t = t ≡ s
-  Ran (call ∷ calls) s t = (m : TrialStore S) × Step call s m × Ran calls m t
+  Ran (call ∷ calls) s t = (u : TrialStore S m) × Step call s u × Ran calls u t
 
   -- the trial with the next number is opened, and then the calls are made
-  pub record Tried (calls : List TrialCall) (number : ℕ) (s t : TrialStore S) : Type 0 where
+  pub record Tried (calls : List TrialCall) (number : ℕ) (s t : TrialStore S m) : Type 0 where
     pub next : number ≡ s.table.granted + 1
-    pub first : TrialStore S
-    pub opens : OpenAnswers cells s first (Ok number)
+    pub first : TrialStore S m
+    pub opens : OpenAnswers s first (Ok number)
     pub ran : Ran calls first t
 
   -- and that trial is undone
-  pub record Rehearsed (calls : List TrialCall) (s t : TrialStore S) : Type 0 where
+  pub record Rehearsed (calls : List TrialCall) (s t : TrialStore S m) : Type 0 where
     pub number : ℕ
-    pub last : TrialStore S
+    pub last : TrialStore S m
     pub tried : Tried calls number s last
-    pub undone : Undone cells width holds stays number last t
+    pub undone : Undone number last t
 
   -- or the calls have ended it
-  pub record Ended (calls : List TrialCall) (s t : TrialStore S) : Type 0 where
+  pub record Ended (calls : List TrialCall) (s t : TrialStore S m) : Type 0 where
     pub number : ℕ
     pub tried : Tried calls number s t
-    pub none : NotAmong number (open_trials cells t)
+    pub none : NotAmong number (open_trials t)
 
   -- why there is no rehearsal: no trial can be opened, or the calls ended it
-  abbrev pub NotRehearsed : List TrialCall → TrialStore S → TrialStore S → TrialFault → Type 0
-  NotRehearsed calls s t TooManyOpen = CannotOpen (open_trials cells s) s.table.granted TooManyOpen × (t ≡ s)
-  NotRehearsed calls s t AllGranted = CannotOpen (open_trials cells s) s.table.granted AllGranted × (t ≡ s)
+  abbrev pub NotRehearsed : List TrialCall → TrialStore S m → TrialStore S m → TrialFault → Type 0
+  NotRehearsed calls s t TooManyOpen = CannotOpen (open_trials s) s.table.granted TooManyOpen × (t ≡ s)
+  NotRehearsed calls s t AllGranted = CannotOpen (open_trials s) s.table.granted AllGranted × (t ≡ s)
   NotRehearsed calls s t NotOpen = Ended calls s t
 
   -- the cells, the width and the open trials of t are those of s
-  pub record Back (s t : TrialStore S) : Type 0 where
-    pub same : Sound cells width holds s → cells t.below ≡ cells s.below
-    pub scale : width t.below ≡ width s.below
-    pub trials : open_trials cells t ≡ open_trials cells s
+  pub record Back (s t : TrialStore S m) : Type 0 where
+    pub same : m.cells t.below ≡ m.cells s.below
+    pub scale : m.width t.below ≡ m.width s.below
+    pub trials : open_trials t ≡ open_trials s

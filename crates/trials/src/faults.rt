@@ -5,21 +5,17 @@ ghost use Rattle.trials.specs.Faults.{trial_number};
 #[derive(Clone, Copy, PartialEq, Eq, Debug)]
 pub enum TrialFault {
     // 16 trials are open
-    TooManyOpen,
+    TooManyOpen = 10,
     // all 1,000,000 numbers are granted
-    AllGranted,
+    AllGranted = 11,
     // no open trial has the number
-    NotOpen,
+    NotOpen = 12,
 }
 
-impl TrialFault {
-    pub fn number(self) -> u8
-        ensures { result ≡ trial_number self }
-    {
-        match self {
-            TrialFault::TooManyOpen => 10,
-            TrialFault::AllGranted => 11,
-            TrialFault::NotOpen => 12,
-        }
+impl From<TrialFault> for u8 {
+    ghost from_gives = { λ fault number. number ≡ trial_number fault };
+
+    fn from(fault: TrialFault) -> u8 {
+        fault as u8
     }
 }

@@ -1,7 +1,7 @@
 // Code over any store that writes, run on a store with trials between an open and its undo.
 ghost use Rattle.std.specs.Prelude.{◌≡◌, ℕ, ◌+◌, MatchBool, MatchResult};
 ghost use Rattle.trials.specs.Trials.{CannotOpen};
-ghost use Rattle.trials.specs.TrialStores.{open_trials, Sound};
+ghost use Rattle.trials.specs.TrialStores.{open_trials};
 ghost use Rattle.trials.specs.Caps.{CanCap, CannotCap, Capped};
 ghost use Rattle.trials.specs.Rehearsals.{Back};
 
@@ -30,22 +30,8 @@ pub fn probe<S: Store>(
     cell: usize,
     rank: usize,
 ) -> Result<bool, TrialFault>
-    ensures outcome { MatchResult result (λ some. MatchBool some (CanCap (S.cells store.old.below) cell rank) (CannotCap (S.cells store.old.below) cell rank) × (store.new.table.granted ≡ store.old.table.granted + 1)) (λ e. CannotOpen (open_trials S.cells store.old) store.old.table.granted e × (store.new ≡ store.old)) }
-    ensures back { Back S.cells S.width S.holds S.stays store.old store.new }
-    ensures sound { Sound S.cells S.width S.holds store.old → Sound S.cells S.width S.holds store.new }
-{
-    cap_in_trial(store, cell, rank)
-}
-
-// Caps a cell in a trial, and undoes that.
-fn cap_in_trial<S: Store>(
-    store: &mut TrialStore<S>,
-    cell: usize,
-    rank: usize,
-) -> Result<bool, TrialFault>
-    ensures outcome { MatchResult result (λ some. MatchBool some (CanCap (S.cells store.old.below) cell rank) (CannotCap (S.cells store.old.below) cell rank) × (store.new.table.granted ≡ store.old.table.granted + 1)) (λ e. CannotOpen (open_trials S.cells store.old) store.old.table.granted e × (store.new ≡ store.old)) }
-    ensures back { Back S.cells S.width S.holds S.stays store.old store.new }
-    ensures sound { Sound S.cells S.width S.holds store.old → Sound S.cells S.width S.holds store.new }
+    ensures outcome { MatchResult result (λ some. MatchBool some (CanCap (S.cells store.old.below) cell rank) (CannotCap (S.cells store.old.below) cell rank) × (store.new.table.granted ≡ store.old.table.granted + 1)) (λ e. CannotOpen (open_trials store.old) store.old.table.granted e × (store.new ≡ store.old)) }
+    ensures back { Back store.old store.new }
 {
     let number = store.open()?;
     let some = cap(store, cell, rank);

@@ -1,7 +1,7 @@
 // A rehearsal: calls made in a trial that is then undone. Whatever they were, the cells are again those at the opening.
 ghost use Rattle.std.specs.Prelude.{◌≡◌, length, IfOk, MatchResult, OnOk};
 ghost use Rattle.trials.specs.Trials.{CannotOpen};
-ghost use Rattle.trials.specs.TrialStores.{open_trials, Sound, Undone};
+ghost use Rattle.trials.specs.TrialStores.{open_trials, Undone};
 ghost use Rattle.trials.specs.declared.trial_store.TrialStore.{TrialStore};
 ghost use Rattle.trials.specs.Rehearsals.{Step, Ran, Tried, Rehearsed, NotRehearsed, Back};
 
@@ -10,7 +10,7 @@ use crate::trial_store::TrialStore;
 use domains::domain::Domain;
 use stores::store::Store;
 
-// A call on a store with trials.
+// A call on a store with trials: data and no closure, since `rehearse` is promised of any list of calls, and a reader sees here which.
 #[derive(Clone, Copy)]
 pub enum TrialCall {
     Write { cell: usize, part: Domain },
@@ -21,8 +21,7 @@ pub enum TrialCall {
 
 // Makes a call, whatever it answers.
 pub fn carry_out<S: Store>(store: &mut TrialStore<S>, call: TrialCall)
-    ensures step { Step S.cells S.width S.holds S.stays call store.old store.new }
-    ensures sound { Sound S.cells S.width S.holds store.old → Sound S.cells S.width S.holds store.new }
+    ensures { Step call store.old store.new }
 {
     match call {
         TrialCall::Write { cell, part } => {
@@ -42,8 +41,7 @@ pub fn carry_out<S: Store>(store: &mut TrialStore<S>, call: TrialCall)
 
 // Makes the calls, one after another.
 fn carry_out_all<S: Store>(store: &mut TrialStore<S>, calls: &[TrialCall])
-    ensures ran { Ran S.cells S.width S.holds S.stays calls.now store.old store.new }
-    ensures sound { Sound S.cells S.width S.holds store.old → Sound S.cells S.width S.holds store.new }
+    ensures { Ran calls.now store.old store.new }
 {
     for call in calls {
         carry_out(store, *call);
@@ -52,24 +50,12 @@ fn carry_out_all<S: Store>(store: &mut TrialStore<S>, calls: &[TrialCall])
 
 // Opens a trial, makes the calls, and answers the trial's number. Whatever the calls were, to undo that number takes the store back.
 fn try_calls<S: Store>(store: &mut TrialStore<S>, calls: &[TrialCall]) -> Result<u32, TrialFault>
-    ensures outcome { MatchResult result (λ number. Tried S.cells S.width S.holds S.stays calls.now number store.old store.new) (λ e. CannotOpen (open_trials S.cells store.old) store.old.table.granted e × (store.new ≡ store.old)) }
-    ensures back { IfOk result (λ number. (t : TrialStore _) → Undone S.cells S.width S.holds S.stays number store.new t → Back S.cells S.width S.holds S.stays store.old t) }
-    ensures sound { Sound S.cells S.width S.holds store.old → Sound S.cells S.width S.holds store.new }
+    ensures outcome { MatchResult result (λ number. Tried calls.now number store.old store.new) (λ e. CannotOpen (open_trials store.old) store.old.table.granted e × (store.new ≡ store.old)) }
+    ensures back { IfOk result (λ number. (t : TrialStore _ _) → Undone number store.new t → Back store.old t) }
 {
     let number = store.open()?;
     carry_out_all(store, calls);
     Ok(number)
-}
-
-// Opens a trial, makes the calls, and undoes that trial.
-fn try_and_undo<S: Store>(store: &mut TrialStore<S>, calls: &[TrialCall]) -> Result<(), TrialFault>
-    ensures outcome { MatchResult result (λ _. Rehearsed S.cells S.width S.holds S.stays calls.now store.old store.new) (λ e. NotRehearsed S.cells S.width S.holds S.stays calls.now store.old store.new e) }
-    ensures back { OnOk result (Back S.cells S.width S.holds S.stays store.old store.new) }
-    ensures sound { Sound S.cells S.width S.holds store.old → Sound S.cells S.width S.holds store.new }
-{
-    let number = try_calls(store, calls)?;
-    store.undo(number)?;
-    Ok(())
 }
 
 // Rehearses the calls in a trial that is then undone, and answers how many trials are open. Where the undo is accepted, the
@@ -78,10 +64,10 @@ pub fn rehearse<S: Store>(
     store: &mut TrialStore<S>,
     calls: &[TrialCall],
 ) -> Result<usize, TrialFault>
-    ensures outcome { MatchResult result (λ left. Rehearsed S.cells S.width S.holds S.stays calls.now store.old store.new × (left ≡ length (open_trials S.cells store.new))) (λ e. NotRehearsed S.cells S.width S.holds S.stays calls.now store.old store.new e) }
-    ensures back { OnOk result (Back S.cells S.width S.holds S.stays store.old store.new) }
-    ensures sound { Sound S.cells S.width S.holds store.old → Sound S.cells S.width S.holds store.new }
+    ensures outcome { MatchResult result (λ left. Rehearsed calls.now store.old store.new × (left ≡ length (open_trials store.new))) (λ e. NotRehearsed calls.now store.old store.new e) }
+    ensures back { OnOk result (Back store.old store.new) }
 {
-    try_and_undo(store, calls)?;
+    let trial = try_calls(store, calls)?;
+    store.undo(trial)?;
     Ok(store.trials())
 }

@@ -1,34 +1,36 @@
-// What the table of snapshots does: opens a trial, and ends one with all newer ones.
-ghost use Rattle.std.specs.Prelude.{◌≡◌, ℕ, ◌+◌, ◌<◌, ◌≤◌, List, [], ◌∷◌, length, replicate, MatchOption, MatchResult};
-ghost use Rattle.trials.specs.Saved.{at};
-ghost use Rattle.trials.specs.Trials.{Trial, trial, trials_below, trials_of, NotAmong, Numbered, Opens, CannotOpen, Ends, CannotEnd};
+// The table of snapshots: what is saved for each open trial. It opens a trial, and ends one with all newer ones.
+ghost use Rattle.std.specs.Prelude.{◌≤◌};
+ghost use Rattle.trials.specs.Saved.{trials_from, Numbered, Numbered-prop};
 
 use crate::faults::TrialFault;
-use crate::saved::{Saved, TrialTable};
+use crate::saved::Saved;
+use arrayvec::ArrayVec;
 
 // How many trials may be open at once, and how many numbers are granted in all.
 pub const MOST_OPEN: usize = 16;
 
 pub const MOST_GRANTED: u32 = 1_000_000;
 
-fn unused() -> [Saved; 16]
-    ensures { length result ≡ 16 }
-{
-    [Saved {
-        number: 0,
-        note: 0,
-        masks: [0; 64],
-    }; 16]
+// The oldest trial stands first; their numbers rise. There is no copy of a table, so no number is granted twice.
+#[derive(Drop)]
+pub struct TrialTable {
+    granted: u32,
+    saved: ArrayVec<Saved, MOST_OPEN>,
+    pub ghost spent: { granted ≤ 1000000 },
+    pub ghost numbered: { Numbered granted (trials_from saved.items) } by { Numbered-prop granted (trials_from saved.items) },
 }
 
 impl TrialTable {
+    ghost use Rattle.std.specs.Prelude.{◌≡◌, ℕ, ◌+◌, ◌<◌, ◌≤◌, List, [], ◌∷◌, length, take, MatchOption, MatchResult};
+    ghost use Rattle.trials.specs.Saved.{Trial, trial, at};
+    ghost use Rattle.trials.specs.Trials.{trials_of, NotAmong, Opens, CannotOpen, Ends, CannotEnd};
+
     pub fn new() -> TrialTable
         ensures { (trials_of result ≡ []) × (result.granted ≡ 0) }
     {
         TrialTable {
-            count: 0,
             granted: 0,
-            saved: unused(),
+            saved: ArrayVec::new(),
         }
     }
 
@@ -36,18 +38,8 @@ impl TrialTable {
     pub fn len(&self) -> usize
         ensures count { result ≡ length (trials_of self.now) }
         ensures few { result ≤ 16 }
-        ensures numbered { Numbered self.now.granted (trials_of self.now) }
     {
-        self.counted()
-    }
-
-    // The count of the places in use, and what it says of the trials.
-    fn counted(&self) -> usize
-        ensures count { result ≡ length (trials_of self.now) }
-        ensures few { result ≤ 16 }
-        ensures numbered { Numbered self.now.granted (trials_of self.now) }
-    {
-        self.count
+        self.saved.len()
     }
 
     // How many numbers are granted.
@@ -62,8 +54,7 @@ impl TrialTable {
     pub fn open(&mut self, masks: [u64; 64], note: usize) -> Result<u32, TrialFault>
         ensures { MatchResult result (λ t. Opens (trials_of self.old) self.old.granted (record { number = t; note = note; masks = masks }) (trials_of self.new) self.new.granted) (λ e. CannotOpen (trials_of self.old) self.old.granted e × (self.new ≡ self.old)) }
     {
-        let place = self.len();
-        if place >= MOST_OPEN {
+        if self.len() >= MOST_OPEN {
             return Err(TrialFault::TooManyOpen);
         }
         if self.granted >= MOST_GRANTED {
@@ -75,42 +66,36 @@ impl TrialTable {
             note,
             masks,
         };
-        self.put(place, saved);
+        self.put(saved);
         Ok(number)
     }
 
-    // Puts a trial with the next number at the place behind the others.
-    fn put(&mut self, place: usize, saved: Saved)
-        requires { (place ≡ length (trials_of self.old)) × ((place < 16) × ((self.old.granted < 1000000) × (saved.number ≡ self.old.granted + 1))) }
+    // Puts a trial with the next number behind the others.
+    fn put(&mut self, saved: Saved)
+        requires { (length (trials_of self.old) < 16) × ((self.old.granted < 1000000) × (saved.number ≡ self.old.granted + 1)) }
         ensures front { trials_of self.new ≡ trial saved ∷ trials_of self.old }
         ensures spent { self.new.granted ≡ self.old.granted + 1 }
     {
-        self.saved[place] = saved;
-        self.count = place + 1;
+        self.saved.push(saved);
         self.granted += 1;
     }
 
     // The place of the open trial with a number.
     fn place(&self, number: u32) -> Option<usize>
-        ensures { MatchOption result (NotAmong number (trials_of self.now)) (λ p. (p < self.now.count) × Ends number (trials_of self.now) (trial (at self.now.saved p)) (trials_below self.now.saved p)) }
+        ensures { MatchOption result (NotAmong number (trials_of self.now)) (λ p. (p < length self.now.saved.items) × Ends number (trials_of self.now) (trial (at self.now.saved.items p)) (trials_from (take p self.now.saved.items))) }
     {
-        for i in 0..self.count {
-            if self.saved[i].number == number {
-                return Some(i);
-            }
-        }
-        None
+        self.saved.iter().position(|s| s.number == number)
     }
 
     // Ends the trial at a place and all newer ones, and answers what was saved for it.
     fn cut(&mut self, place: usize) -> Saved
-        requires { place < self.old.count }
-        ensures that { result ≡ at self.old.saved place }
-        ensures older { trials_of self.new ≡ trials_below self.old.saved place }
+        requires { place < length self.old.saved.items }
+        ensures that { result ≡ at self.old.saved.items place }
+        ensures older { trials_of self.new ≡ trials_from (take place self.old.saved.items) }
         ensures spent { self.new.granted ≡ self.old.granted }
     {
         let saved = self.saved[place];
-        self.count = place;
+        self.saved.truncate(place);
         saved
     }
 
@@ -118,9 +103,7 @@ impl TrialTable {
     pub fn end(&mut self, number: u32) -> Result<Saved, TrialFault>
         ensures { MatchResult result (λ saved. Ends number (trials_of self.old) (trial saved) (trials_of self.new) × (self.new.granted ≡ self.old.granted)) (λ e. CannotEnd number (trials_of self.old) e × (self.new ≡ self.old)) }
     {
-        let Some(place) = self.place(number) else {
-            return Err(TrialFault::NotOpen);
-        };
+        let place = self.place(number).ok_or(TrialFault::NotOpen)?;
         Ok(self.cut(place))
     }
 
@@ -128,6 +111,6 @@ impl TrialTable {
     pub fn clear(&mut self)
         ensures { (trials_of self.new ≡ []) × (self.new.granted ≡ self.old.granted) }
     {
-        self.count = 0;
+        self.saved.clear();
     }
 }

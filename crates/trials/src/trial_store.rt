@@ -1,28 +1,33 @@
 // A store over any other, with trials: each can be undone, or kept, by its number.
-ghost use Rattle.std.specs.Prelude.{◌≡◌, [], length, take, set, MatchResult, slice_set};
-ghost use Rattle.stores.specs.Stores.{Sized, LaidOut, Accepted, Refused, Savable};
-ghost use Rattle.trials.specs.Trials.{Numbered, CannotEnd};
-ghost use Rattle.trials.specs.TrialStores.{open_trials, TrialsApart, OpenAnswers, Sound, Rests, Undone, UndoAnswers, Kept, KeepAnswers};
-ghost use Rattle.trials.specs.Layers.{rests_same, rests_then};
+ghost use Rattle.trials.specs.Saving.{Sound};
 
 use crate::faults::TrialFault;
-use crate::saved::TrialTable;
+use crate::saved::Saved;
+use crate::table::TrialTable;
 use domains::domain::Domain;
 use stores::copying::{restore, snapshot};
 use stores::faults::{LayOutFault, WriteFault};
 use stores::store::{Size, Store};
 
+// What is saved for each open trial can be written back to the store below, always: only a lay out changes the cells' number or the
+// width, and it ends the trials.
 #[derive(Drop)]
-pub struct TrialStore<S> {
+pub struct TrialStore<S: Store> {
     below: S,
     table: TrialTable,
+    pub ghost sound: { ∥ Sound S.Store below table ∥₁ },
 }
 
 impl<S: Store> TrialStore<S> {
+    ghost use Rattle.std.specs.Prelude.{◌≡◌, [], length, take, MatchResult, slice_set};
+    ghost use Rattle.stores.specs.Stores.{Accepted, Refused, Savable};
+    ghost use Rattle.trials.specs.Saved.{Numbered};
+    ghost use Rattle.trials.specs.Trials.{CannotEnd};
+    ghost use Rattle.trials.specs.TrialStores.{open_trials, TrialsApart, OpenAnswers, Rests, Closed, Undone, UndoAnswers, KeepAnswers};
+
     pub fn new(below: S) -> TrialStore<S>
         ensures below { result.below ≡ below }
-        ensures trials { (open_trials S.cells result ≡ []) × (result.table.granted ≡ 0) }
-        ensures sound { Sound S.cells S.width S.holds result }
+        ensures trials { (open_trials result ≡ []) × (result.table.granted ≡ 0) }
     {
         TrialStore {
             below,
@@ -31,117 +36,101 @@ impl<S: Store> TrialStore<S> {
     }
 
     // How many trials are open.
+    #[tactic(auto, using(crate::proofs::Ending::numbered_map))]
     pub fn trials(&self) -> usize
-        ensures count { result ≡ length (open_trials S.cells self.now) }
-        ensures numbered { Numbered self.now.table.granted (open_trials S.cells self.now) }
-    {
-        self.counted()
-    }
-
-    // The table counts the same trials.
-    fn counted(&self) -> usize
-        ensures count { result ≡ length (open_trials S.cells self.now) }
-        ensures numbered { Numbered self.now.table.granted (open_trials S.cells self.now) }
+        ensures count { result ≡ length (open_trials self.now) }
+        ensures numbered { Numbered self.now.table.granted (open_trials self.now) }
     {
         self.table.len()
     }
 
     // Opens a trial, and answers its number.
     pub fn open(&mut self) -> Result<u32, TrialFault>
-        ensures outcome { OpenAnswers S.cells self.old self.new result }
-        ensures sound { Sound S.cells S.width S.holds self.old → Sound S.cells S.width S.holds self.new }
-        ensures apart { TrialsApart S.cells self.old self.new }
+        ensures outcome { OpenAnswers self.old self.new result }
+        ensures apart { TrialsApart self.old self.new }
     {
         let masks = snapshot(&self.below);
         self.begin(masks)
     }
 
-    // Opens a trial for which the present masks are saved.
+    // Opens a trial for which the present masks are saved: what `end` is to the table, and so apart from the snapshot.
     fn begin(&mut self, masks: [u64; 64]) -> Result<u32, TrialFault>
         requires { (take (length (S.cells self.old.below)) masks ≡ S.cells self.old.below) × (Savable S.holds (S.width self.old.below) (length (S.cells self.old.below)) masks) }
-        ensures outcome { OpenAnswers S.cells self.old self.new result }
-        ensures sound { Sound S.cells S.width S.holds self.old → Sound S.cells S.width S.holds self.new }
-        ensures apart { TrialsApart S.cells self.old self.new }
+        ensures outcome { OpenAnswers self.old self.new result }
+        ensures apart { TrialsApart self.old self.new }
     {
         self.table.open(masks, 0)
     }
 
-    // Gives each cell the set that it had when the trial was opened, ends that trial and all newer ones, and answers how many
-    // remain open.
-    pub fn undo(&mut self, number: u32) -> Result<usize, TrialFault>
-        ensures outcome { UndoAnswers S.cells S.width S.holds S.stays number self.old self.new result }
-        ensures sound { Sound S.cells S.width S.holds self.old → Sound S.cells S.width S.holds self.new }
-        ensures apart { TrialsApart S.cells self.old self.new }
+    // Ends the trial with a number and all newer ones, and answers what was saved for it.
+    fn end(&mut self, number: u32) -> Result<Saved, TrialFault>
+        ensures outcome { MatchResult result (λ saved. Closed number saved self.old self.new) (λ e. CannotEnd number (open_trials self.old) e × (self.new ≡ self.old)) }
+        ensures apart { TrialsApart self.old self.new }
     {
-        self.take_back(number)?;
-        Ok(self.trials())
-    }
-
-    fn take_back(&mut self, number: u32) -> Result<(), TrialFault>
-        ensures outcome { MatchResult result (λ _. Undone S.cells S.width S.holds S.stays number self.old self.new) (λ e. CannotEnd number (open_trials S.cells self.old) e × (self.new ≡ self.old)) }
-        ensures sound { Sound S.cells S.width S.holds self.old → Sound S.cells S.width S.holds self.new }
-        ensures apart { TrialsApart S.cells self.old self.new }
-    {
-        let saved = self.table.end(number)?;
-        restore(&mut self.below, &saved.masks);
-        Ok(())
+        self.table.end(number)
     }
 
     // Leaves each cell as it is, ends the same trials as `undo`, and answers how many remain open.
     pub fn keep(&mut self, number: u32) -> Result<usize, TrialFault>
-        ensures outcome { KeepAnswers S.cells number self.old self.new result }
-        ensures sound { Sound S.cells S.width S.holds self.old → Sound S.cells S.width S.holds self.new }
-        ensures apart { TrialsApart S.cells self.old self.new }
+        ensures outcome { KeepAnswers number self.old self.new result }
+        ensures apart { TrialsApart self.old self.new }
     {
-        self.let_stand(number)?;
+        self.end(number)?;
         Ok(self.trials())
     }
 
-    fn let_stand(&mut self, number: u32) -> Result<(), TrialFault>
-        ensures outcome { MatchResult result (λ _. Kept S.cells number self.old self.new) (λ e. CannotEnd number (open_trials S.cells self.old) e × (self.new ≡ self.old)) }
-        ensures sound { Sound S.cells S.width S.holds self.old → Sound S.cells S.width S.holds self.new }
-        ensures apart { TrialsApart S.cells self.old self.new }
+    // Gives each cell the set that it had when the trial was opened, ends that trial and all newer ones, and answers how many
+    // remain open.
+    #[tactic(auto, using(crate::proofs::Layers::restored_undone, crate::proofs::Layers::restored_apart, crate::proofs::Layers::write_sound))]
+    pub fn undo(&mut self, number: u32) -> Result<usize, TrialFault>
+        ensures outcome { UndoAnswers number self.old self.new result }
+        ensures apart { TrialsApart self.old self.new }
     {
-        self.table.end(number)?;
-        Ok(())
+        let saved = self.end(number)?;
+        restore(&mut self.below, &saved.masks);
+        Ok(self.trials())
     }
 
-    // A write while trials are open is a plain write to the store below.
+    // A write while trials are open is a plain write to the store below. Apart from `write`: that a refused one leaves the whole as
+    // it was takes a lemma by name, and in `write` itself an edit would be refused at that lemma's use.
     fn pass_on(&mut self, cell: usize, part: Domain) -> Result<(), WriteFault>
         ensures outcome { MatchResult result (λ _. Accepted S.holds (length (S.cells self.old.below)) (S.width self.old.below) cell part.mask × (S.cells self.new.below ≡ slice_set (S.cells self.old.below) cell part.mask)) (λ e. Refused S.holds (length (S.cells self.old.below)) (S.width self.old.below) cell part.mask e × (self.new ≡ self.old)) }
         ensures width { S.width self.new.below ≡ S.width self.old.below }
-        ensures rest { S.stays self.old.below self.new.below × Rests S.cells S.width S.holds self.old self.new }
+        ensures rest { S.stays self.old.below self.new.below × Rests self.old self.new }
     {
         self.below.write(cell, part)
     }
 }
 
 impl<S: Store> Store for TrialStore<S> {
+    ghost use Rattle.std.specs.Prelude.{◌≡◌, [], MatchResult};
+    ghost use Rattle.stores.specs.Stores.{Sized, LaidOut};
+    ghost use Rattle.trials.specs.TrialStores.{open_trials, Rests};
+    ghost use Rattle.std.proofs.Common.{refl, ◌∙◌};
+
     ghost cells = { λ s. S.cells s.below };
 
     ghost width = { λ s. S.width s.below };
 
     ghost holds = { S.holds };
 
-    ghost stays = { λ s t. S.stays s.below t.below × Rests S.cells S.width S.holds s t };
+    ghost stays = { λ s t. S.stays s.below t.below × Rests s t };
 
-    ghost laws = { let m = S.Store in
-        let laws = S.laws in
+    ghost laws = { let laws = S.laws in
         record {
           formed = λ s. laws.formed s.below;
           full = laws.full;
           front = laws.front;
           rear = laws.rear;
-          same = λ s. (laws.same s.below, rests_same m.cells m.width m.holds s);
-          then = λ s t u p q. (laws.then s.below t.below u.below p.0 q.0, rests_then m.cells m.width m.holds s t u p.1 q.1);
+          same = λ s. (laws.same s.below, record { trials = refl; granted = refl });
+          then = λ s t u p q. (laws.then s.below t.below u.below p.0 q.0, record { trials = q.1.trials ∙ p.1.trials; granted = q.1.granted ∙ p.1.granted });
         } };
 
     // Where it is accepted, it ends all trials; their numbers stay granted.
     fn lay_out(&mut self, n: usize, d: usize) -> Result<(), LayOutFault>
         ensures outcome { MatchResult result (λ _. LaidOut n d (S.cells self.new.below) (S.width self.new.below)) (λ _. (Sized n d → ⊥) × (self.new ≡ self.old)) }
-        ensures ended { MatchResult result (λ _. open_trials S.cells self.new ≡ []) (λ _. open_trials S.cells self.new ≡ open_trials S.cells self.old) }
+        ensures ended { MatchResult result (λ _. open_trials self.new ≡ []) (λ _. open_trials self.new ≡ open_trials self.old) }
         ensures granted { self.new.table.granted ≡ self.old.table.granted }
-        ensures sound { Sound S.cells S.width S.holds self.old → Sound S.cells S.width S.holds self.new }
     {
         self.below.lay_out(n, d)?;
         self.table.clear();

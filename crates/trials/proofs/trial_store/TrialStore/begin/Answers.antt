@@ -1,15 +1,18 @@
-use Rattle.trials.specs.Layers.{open_outcome, open_sound, open_apart}
+use Rattle.std.proofs.Common.{refl}
+use Rattle.trials.proofs.Layers.{same_store, open_outcome, open_sound, open_apart}
 use Rattle.trials.proofs.trial_store.TrialStore.begin.Goals as goal
+
+pub invariant_of-self : goal.invariant_of-self
+invariant_of-self g c =
+    let s = c.args.self.now in
+    record { sound = open_sound g.S.Store s.below s.table c.open.new.self c.args.masks c.requires.1 c.open.result c.open.ensures s.sound }
 
 pub returns : goal.returns
 returns g c =
     let m = g.S.Store in
     let s = c.args.self.now in
     let u = c.open.new.self in
-    let xs = c.args.masks in
-    let r = c.open.result in
     record {
-      outcome = open_outcome m.cells m.width m.holds s.below s.table u xs c.requires.0 r c.open.ensures;
-      sound = open_sound m.cells m.width m.holds s.below s.table u xs c.requires.1 r c.open.ensures;
-      apart = open_apart m.cells m.width m.holds s.below s.table u xs c.requires.0 r c.open.ensures;
+      outcome = open_outcome m s.below s.table u c.args.masks c.requires.0 _ (λ q. same_store _ s refl q) c.open.result c.open.ensures;
+      apart = open_apart m s.below s.table u c.args.masks c.requires.0 c.open.result c.open.ensures;
     }

@@ -1,20 +1,16 @@
 -- What opening a trial and ending one do to the list of the open trials.
 use Rattle.std.proofs.Common.{arith, sym, subst, ap, ◌∙◌, append_assoc}
-use Rattle.std.specs.Prelude.{◌≡◌, ℕ, ◌+◌, ◌<◌, List, [], ◌∷◌, ◌++◌, map, drop, ◌≢◌, slice_index_or}
+use Rattle.std.specs.Prelude.{◌≡◌, ℕ, ◌+◌, ◌<◌, List, [], ◌∷◌, ◌++◌, map, ◌≢◌}
 use Rattle.std.proofs.lemmas.List.{map-append}
 use Rattle.std.specs.List.{AllByRecursion}
-use Rattle.trials.specs.Trials.{Trial, Numbered, NotAmong, Opens, Ends}
-use Rattle.trials.specs.TrialStores.{of_cells, Apart}
+use Rattle.trials.specs.Saved.{Trial, Numbered}
+use Rattle.trials.specs.Trials.{NotAmong, Opens, Ends}
+use Rattle.trials.specs.Saving.{of_cells}
+use Rattle.trials.specs.TrialStores.{Apart}
 
 all_rear : (P : Trial → Type 0) (xs ys : List Trial) → AllByRecursion P (xs ++ ys) → AllByRecursion P ys
 all_rear P [] ys h = h
 all_rear P (x ∷ xs) ys h = all_rear P xs ys h.1
-
-same_first : (x y : Trial) (xs ys : List Trial) → x ∷ xs ≡ y ∷ ys → x ≡ y
-same_first x y xs ys e = ap (λ (zs : List Trial). slice_index_or zs 0 x) e
-
-same_rest : (x y : Trial) (xs ys : List Trial) → x ∷ xs ≡ y ∷ ys → xs ≡ ys
-same_rest x y xs ys e = ap (λ (zs : List Trial). drop 1 zs) e
 
 -- a trial that ends has what every open one has, and so have the older ones
 pub ends_that : (P : Trial → Type 0) (t : ℕ) (before : List Trial) (that : Trial) (older : List Trial) → Ends t before that older → AllByRecursion P before → P that × AllByRecursion P older
@@ -32,16 +28,16 @@ pub ends_behind : (t : ℕ) (x : Trial) (before : List Trial) (that : Trial) (ol
 ends_behind t x before that older other e = go e.newer e.split
   where
     go : (newer : List Trial) → x ∷ before ≡ newer ++ (that ∷ older) → Ends t before that older
-    go [] q = absurd (other (ap (λ (y : Trial). y.number) (same_first x that before older q) ∙ e.named))
-    go (y ∷ newer) q = record { newer = newer; split = same_rest x y before (newer ++ (that ∷ older)) q; named = e.named }
+    go [] q = let first : x ≡ that = cc q in absurd (other (ap (λ (y : Trial). y.number) first ∙ e.named))
+    go (y ∷ newer) q = record { newer = newer; split = cc q; named = e.named }
 
 -- of a trial in front, whose number no other has, the ending is that one
 pub ends_front : (t : ℕ) (x : Trial) (before : List Trial) (that : Trial) (older : List Trial) → NotAmong t before → Ends t (x ∷ before) that older → (that ≡ x) × (older ≡ before)
 ends_front t x before that older none e = go e.newer e.split
   where
     go : (newer : List Trial) → x ∷ before ≡ newer ++ (that ∷ older) → (that ≡ x) × (older ≡ before)
-    go [] q = (sym (same_first x that before older q), sym (same_rest x that before older q))
-    go (y ∷ newer) q = absurd (ends_none t before that older (record { newer = newer; split = same_rest x y before (newer ++ (that ∷ older)) q; named = e.named }) none)
+    go [] q = (cc q, cc q)
+    go (y ∷ newer) q = absurd (ends_none t before that older (record { newer = newer; split = cc q; named = e.named }) none)
 
 -- the next number is new
 pub next_new : (g : ℕ) (xs : List Trial) → Numbered g xs → NotAmong (g + 1) xs
