@@ -1,3 +1,4 @@
 pub mod Best
+pub mod Laws
 pub mod OnePass
 pub mod Places

@@ -1,1 +1,1 @@
-mod Shown
+pub mod Shown

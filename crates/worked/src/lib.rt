@@ -6,16 +6,11 @@ ghost use Rattle.std.specs.List.{AllByRecursion};
 ghost use Rattle.worked.specs.Rows.{Holds};
 ghost use Rattle.worked.specs.Table.{table};
 
-// The theorem: every row of the table holds.
-fn every_row_holds()
-    ensures { AllByRecursion Holds table }
-{}
-
 // How many rows there are, every one of which holds.
+#[tactic(auto, using(crate::proofs::Shown::shown))]
 pub fn worked_rows() -> usize
     ensures rows { result ≡ length table }
     ensures hold { AllByRecursion Holds table }
 {
-    every_row_holds();
     4
 }

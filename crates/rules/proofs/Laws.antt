@@ -1,9 +1,10 @@
+-- The laws of support, as `support_stands` carries them.
+use Rattle.rules.specs.Support.{BestDecides, SupportGrows, OncePerRule}
 use Rattle.rules.proofs.Best.{meets_needs, meets_suffices, left_needs, left_suffices, right_needs, right_suffices}
 use Rattle.rules.proofs.OnePass.{supported_mono, left_down, right_up, lowest_left, highest_right, stands}
-use Rattle.rules.proofs.support.laws.Goals as goal
 
-pub returns-clause-best : goal.returns-clause-best
-returns-clause-best c = λ F q lo hi ends far. record {
+pub best_decides : BestDecides
+best_decides = λ F q lo hi ends far. record {
   meets = (λ m. meets_needs F q lo hi ends m.0 m.1 m.2, λ n. meets_suffices F q lo hi ends far n);
   left = λ c r m. (left_needs F q lo hi ends c r m, λ h. left_suffices F q lo hi ends c r far m h.0 h.1);
   right = λ c r m. (right_needs F q lo hi ends c r m, λ h. right_suffices F q lo hi ends c r far m h.0 h.1);
@@ -13,8 +14,8 @@ returns-clause-best c = λ F q lo hi ends far. record {
   highest = λ n. highest_right F q lo hi ends far n;
 }
 
-pub returns-clause-grows : goal.returns-clause-grows
-returns-clause-grows c = supported_mono
+pub support_grows : SupportGrows
+support_grows = supported_mono
 
-pub returns-clause-once : goal.returns-clause-once
-returns-clause-once c = λ F q lo hi ends far n G only all. stands F q lo hi ends far n G only all
+pub once_per_rule : OncePerRule
+once_per_rule = λ F q lo hi ends far n G only all. stands F q lo hi ends far n G only all
