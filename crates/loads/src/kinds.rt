@@ -38,6 +38,7 @@ impl Hand {
     }
 }
 
+// Not derived: a derive would put the earlier year lower.
 impl Ord for Hand {
     ghost cmp = { by_hand };
 

@@ -100,6 +100,7 @@ fn top_below<'a, G: Grade>(limit: Option<&G>, load: &'a [G]) -> Option<Held<'a, 
     ensures { Top G.cmp (seen limit.entry) load.now result }
 {
     let mut top: Option<Held<'a, G>> = None;
+    // No plainer as a `fold`: its closure would have to require what `raised` does.
     for x in load {
         if is_below(x, limit) {
             top = Some(raised(top, x));
@@ -219,6 +220,7 @@ pub struct Exchanged<G> {
 pub fn exchange<G: Grade>(load: &mut [G], at: usize, new: G) -> Result<Exchanged<G>, G>
     ensures { MatchResult result (λ x. Exchange G.cmp load.old at new load.new x.old x.weight) (λ back. NoMember load.old at new load.new back) }
 {
+    // Not by `get_mut`: after a slice's a proof knows the length, and no element.
     if at >= load.len() {
         return Err(new);
     }
