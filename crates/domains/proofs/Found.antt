@@ -1,6 +1,6 @@
 -- What the methods of `Domain` compute, in the forms that `grind` applies by itself: it takes a lemma up at the first call in
 -- the conclusion that shows all variables. A first part `x ≡ x` says nothing; it is that call.
-use Rattle.std.proofs.Common.{◌≡◌, ℕ, ◌+◌, ◌-◌, ◌*◌, ◌/◌, ◌%◌, ◌^◌, ◌<◌, ◌≤◌, zero, suc, min, refl, ap, ◌∙◌, arith, pow-suc, pow_mono, mod-eq_of_lt, zero-mul, div-mul-le_self}
+use Rattle.std.proofs.Common.{◌≡◌, ℕ, ◌+◌, ◌-◌, ◌*◌, ◌/◌, ◌%◌, ◌^◌, ◌<◌, ◌≤◌, zero, suc, refl, ap, ◌∙◌, arith, pow-suc, pow_mono, mod-eq_of_lt, zero-mul, div-mul-le_self}
 use native.Mathlib.Nat.{div-eq_of_lt, div-eq_of_lt-le, mod-le}
 use Rattle.std.specs.Int.{w64}
 use lib.Bits.{bit_and, and_le_l}

@@ -1,5 +1,5 @@
 -- The laws of `In`, all of them.
-use Rattle.std.proofs.Common.{◌≡◌, ℕ, zero, suc, ◌+◌, ◌-◌, ◌*◌, ◌/◌, ◌%◌, ◌^◌, ◌<◌, ◌≤◌, ◌⊎◌, sym, refl, ap, ◌∙◌, subst, inl, inr, mod-lt, div-add-mod', div-mul-le_self, add-one, one-add, arith, pow_pos, pow_mono, shr-shr, shr_lt}
+use Rattle.std.proofs.Common.{◌≡◌, ℕ, zero, suc, ◌+◌, ◌-◌, ◌/◌, ◌%◌, ◌^◌, ◌<◌, ◌≤◌, ◌⊎◌, sym, ap, ◌∙◌, subst, inl, inr, mod-lt, div-add-mod', div-mul-le_self, add-one, one-add, arith, pow_pos, pow_mono, shr-shr, shr_lt}
 use lib.Bits.{bit_and}
 use lib.Count.{ones, ones_step, ones-le}
 use lib.Pow.{ones_lt}

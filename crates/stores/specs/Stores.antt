@@ -33,15 +33,6 @@ pub record Laws {S : Type 0} (cells : S → List ℕ) (width : S → ℕ) (holds
   pub same : (s : S) → stays s s
   pub then : (s t u : S) → stays s t → stays t u → stays s u
 
--- What every kind of cell proves: its set has a rank, and is one that the kind can hold; so is the full scale of each width,
--- and with a set its part up to any rank and from any rank, where that part has a rank.
-pub record CellLaws {C : Type 0} (mask : C → ℕ) (holds : ℕ → Type 0) : Type 0 where
-  pub some : (c : C) → 0 < mask c
-  pub held : (c : C) → holds (mask c)
-  pub full : (d : ℕ) → 1 ≤ d → d ≤ 48 → holds (full_scale d)
-  pub front : (m r : ℕ) → holds m → 0 < up_to m r → holds (up_to m r)
-  pub rear : (m r : ℕ) → holds m → 0 < from m r → holds (from m r)
-
 -- an accepted lay out: n and d are within bounds, and every cell holds the full scale
 pub record LaidOut (n d : ℕ) (cs : List ℕ) (w : ℕ) : Type 0 where
   pub sized : Sized n d

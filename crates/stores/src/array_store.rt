@@ -12,7 +12,7 @@ use std::alloc::AllocError;
 pub struct ArrayStore<C: Cell> {
     cells: usize,
     width: usize,
-    kept: [C; 64],
+    kept: [C; CELLS],
     ghost long: { length kept ≡ 64 },
     ghost few: { cells ≤ 64 },
     ghost narrow: { width ≤ 48 },
@@ -32,10 +32,10 @@ impl<C: Cell> Clone for ArrayStore<C> {
     }
 }
 
-fn filled<C: Cell>(kept: C) -> [C; 64]
+fn filled<C: Cell>(kept: C) -> [C; CELLS]
     ensures { result ≡ replicate 64 kept }
 {
-    [kept; 64]
+    [kept; CELLS]
 }
 
 impl<C: Cell> ArrayStore<C> {

@@ -1,6 +1,6 @@
 // What a store keeps for a cell: a set, in the form of one kind.
 ghost use Rattle.std.specs.Prelude.{◌≡◌, ℕ, MatchOption};
-ghost use Rattle.stores.specs.Stores.{CellLaws};
+ghost use Rattle.stores.specs.Kept.{CellLaws};
 
 use domains::domain::Domain;
 

@@ -1,9 +1,17 @@
 // The masks of all cells of any store, read out and written back.
-ghost use Rattle.std.specs.Prelude.{◌≡◌, ℕ, ◌<◌, ◌≤◌, length, take, slice_set};
+ghost use Rattle.std.specs.Prelude.{◌≡◌, ℕ, ◌<◌, ◌≤◌, length, take, slice_index, slice_set};
 ghost use Rattle.stores.specs.Stores.{Holdable, Savable};
 
 use crate::store::Store;
 use domains::domain::Domain;
+use std::array;
+
+// The mask of a cell; 0 where there is none.
+fn mask_at<S: Store>(store: &S, cell: usize) -> u64
+    ensures { cell < length (S.cells store.now) → result ≡ slice_index (S.cells store.now) cell }
+{
+    store.read(cell).map_or(0, |part| part.mask())
+}
 
 // The mask of each cell; past the cells, 0.
 pub fn snapshot<S: Store>(store: &S) -> [u64; 64]
@@ -11,14 +19,7 @@ pub fn snapshot<S: Store>(store: &S) -> [u64; 64]
     ensures same { take (length (S.cells store.now)) result ≡ S.cells store.now }
     ensures savable { Savable S.holds (S.width store.now) (length (S.cells store.now)) result }
 {
-    let mut masks = [0; 64];
-    let size = store.size();
-    for i in 0..size.cells {
-        if let Some(part) = store.read(i) {
-            masks[i] = part.mask();
-        }
-    }
-    masks
+    array::from_fn(|cell| mask_at(store, cell))
 }
 
 // Writes a mask back to a cell, where the store can hold it.
@@ -41,7 +42,7 @@ pub fn restore<S: Store>(store: &mut S, saved: &[u64; 64])
     ensures rest { S.stays store.old store.new }
 {
     let size = store.size();
-    for cell in 0..size.cells {
-        put_back(store, cell, saved[cell]);
+    for (cell, &mask) in saved[..size.cells].iter().enumerate() {
+        put_back(store, cell, mask);
     }
 }

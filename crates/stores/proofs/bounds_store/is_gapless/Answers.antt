@@ -1,4 +1,4 @@
-use Rattle.std.proofs.Common.{◌≡◌, Bool, MatchBool, sym, ◌∙◌, subst}
+use Rattle.std.proofs.Common.{Bool, MatchBool, sym, ◌∙◌, subst}
 use Rattle.domains.specs.Sets.{Gapless}
 use Rattle.domains.proofs.Ranks.{run_gapless}
 use Rattle.stores.proofs.Cells.{when_equal}

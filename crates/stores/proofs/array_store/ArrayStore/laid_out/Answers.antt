@@ -1,5 +1,5 @@
-use Rattle.std.proofs.Common.{◌≡◌, ℕ, ◌-◌, ◌^◌, ◌<◌, ◌≤◌, length, take, map, replicate, refl, ap, ◌∙◌, arith, All}
-use Rattle.std.proofs.lemmas.List.{length-replicate, take-replicate}
+use Rattle.std.proofs.Common.{◌^◌, ◌<◌, ◌≤◌, length, take, map, replicate, refl, ap, ◌∙◌, arith}
+use Rattle.std.proofs.lemmas.List.{take-replicate}
 use Rattle.std.proofs.lemmas.List.Elements.{All-replicate, All-same}
 use Rattle.std.proofs.lemmas.Nat.{pow_pos}
 use lib.LanesLaws.{map-replicate}
