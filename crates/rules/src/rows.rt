@@ -42,22 +42,22 @@ impl Rows<'_> {
         }
     }
 
-    // Whether two places hold the same cell: by loops over the places, which the project's plan wants left by their label.
+    // Whether two places hold the same cell: by loops over the places, which the project's plan wants left by a label.
     fn has_repeat(&self) -> bool
         requires { (length self.now.left.now ≤ 16) × (length self.now.right.now ≤ 16) }
         ensures { MatchBool result (Repeat (cells self.now)) (Apart (cells self.now)) }
     {
         let count = self.left.len() + self.right.len();
-        let mut found = false;
-        'rows: for i in 0..count {
-            for j in 0..i {
-                if self.cell_at(i) == self.cell_at(j) {
-                    found = true;
-                    break 'rows;
+        'rows: {
+            for i in 0..count {
+                for j in 0..i {
+                    if self.cell_at(i) == self.cell_at(j) {
+                        break 'rows true;
+                    }
                 }
             }
+            false
         }
-        found
     }
 }
 
