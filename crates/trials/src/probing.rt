@@ -1,5 +1,5 @@
 // Code over any store that writes, run on a store with trials between an open and its undo.
-ghost use Rattle.std.specs.Prelude.{◌≡◌, ℕ, ◌+◌, MatchBool, MatchResult};
+ghost use Rattle.std.specs.Prelude.{◌≡◌, ◌+◌, MatchBool, MatchResult};
 ghost use Rattle.trials.specs.Trials.{CannotOpen};
 ghost use Rattle.trials.specs.TrialStores.{open_trials};
 ghost use Rattle.trials.specs.Caps.{CanCap, CannotCap, Capped};

@@ -21,8 +21,8 @@ pub struct TrialTable {
 }
 
 impl TrialTable {
-    ghost use Rattle.std.specs.Prelude.{◌≡◌, ℕ, ◌+◌, ◌<◌, ◌≤◌, List, [], ◌∷◌, length, take, MatchOption, MatchResult};
-    ghost use Rattle.trials.specs.Saved.{Trial, trial, at};
+    ghost use Rattle.std.specs.Prelude.{◌≡◌, ◌+◌, ◌<◌, ◌≤◌, [], ◌∷◌, length, take, MatchOption, MatchResult};
+    ghost use Rattle.trials.specs.Saved.{trial, at};
     ghost use Rattle.trials.specs.Trials.{trials_of, NotAmong, Opens, CannotOpen, Ends, CannotEnd};
 
     pub fn new() -> TrialTable
