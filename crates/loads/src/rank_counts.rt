@@ -12,7 +12,7 @@ fn occurrences(counts: &[u8], rank: usize) -> u8
 }
 
 // The highest rank below `bound` of which the numbers differ.
-fn deciding_rank(left: &[u8], right: &[u8], bound: usize) -> Option<usize>
+pub fn deciding_rank(left: &[u8], right: &[u8], bound: usize) -> Option<usize>
     ensures { Deciding (λ k. slice_index left.now k) (λ k. slice_index right.now k) bound result }
 {
     (0..bound).rev().find(|&rank| occurrences(left, rank) != occurrences(right, rank))

@@ -4,7 +4,7 @@ ghost use Rattle.marking.specs.Marks.{occurs, on_left, on_right, AlphaIs, BetaIs
 
 use crate::counts::{Counts, RANKS};
 use crate::marks::Marks;
-use loads::rank_counts::weigh_counts;
+use loads::rank_counts::{deciding_rank, weigh_counts};
 use loads::weighing::Weight;
 
 impl Counts<'_> {
@@ -13,9 +13,8 @@ impl Counts<'_> {
         ensures rank { AlphaIs (on_left self.now) (on_right self.now) result }
         ensures below { IfSome result (λ a. a < 48) }
     {
-        (0..RANKS)
-            .rev()
-            .find(|&rank| self.left[rank] != self.right[rank])
+        let Counts { left, right } = *self;
+        deciding_rank(left, right, RANKS)
     }
 
     // The highest rank below a bound of which the left has more.
