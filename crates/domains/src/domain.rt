@@ -13,7 +13,7 @@ pub struct Domain {
 }
 
 impl Domain {
-    // The set that a mask writes; none where the mask is 0, or 2^48 or above.
+    // The set that a mask writes; none where the mask is 0, or 2^48 or above. In the form of std's `NonZero::new` and `get`.
     pub fn new(mask: u64) -> Option<Domain>
         ensures { MatchOption result ((mask ≡ 0) ⊎ (2 ^ 48 ≤ mask)) (λ d. d.mask ≡ mask) }
     {
@@ -70,7 +70,7 @@ impl Domain {
         ensures least { NoRank (λ k. (k < result) × In self.mask k) }
         ensures rank { result < 48 }
     {
-        self.mask.trailing_zeros() as usize
+        self.mask.trailing_zeros() as usize // std has no `From<u32>` for usize, here and below
     }
 
     #[tactic(auto, using(crate::proofs::Found::highest))]

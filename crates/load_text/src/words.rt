@@ -9,7 +9,8 @@ use loads::grades::Grade;
 use loads::weighing::{Tally, compare_loads};
 use std::alloc::{AllocError, Global};
 
-// What the left load is, by how many members of the deciding grade each load holds.
+// What the left load is, by how many members of the deciding grade each load holds. This and the next are apart from `tally_words`:
+// written out there, a wrong word would be refused at an answer by name, and not at the function.
 fn weight_word(left: usize, right: usize) -> &'static str
     ensures { result.now ≡ weight_word left right }
 {

@@ -78,9 +78,7 @@ mod tests {
         let found = compare_loads(&left, &right);
         assert_eq!(rt; found.weight, Weight::Heavier);
         assert_eq!(rt; found.agreed, 1);
-        let Some(tally) = found.decided else {
-            return Err(Fail::new("no grade decided"));
-        };
+        let tally = found.decided.ok_or(Fail::new("no grade decided"))?;
         assert_eq!(rt; tally.grade.score, 5);
         assert_eq!(rt; tally.left, 2);
         assert_eq!(rt; tally.right, 1);
@@ -91,9 +89,7 @@ mod tests {
     #[test]
     fn one_member_exchanged(rt: HostRuntime) -> Result<(), Fail> {
         let mut load = [points(3), points(8)];
-        let Ok(given) = exchange(&mut load, 1, points(7)) else {
-            return Err(Fail::new("refused"));
-        };
+        let given = exchange(&mut load, 1, points(7)).map_err(|_| Fail::new("refused"))?;
         assert_eq!(rt; given.weight, Weight::Lighter);
         assert_eq!(rt; given.old.score, 8);
         assert_eq!(rt; load[1].score, 7);

@@ -75,7 +75,8 @@ impl From<ClosingRecord> for [u8; 8] {
     }
 }
 
-// Puts a record's bytes into a part, and leaves one of another length as it is.
+// Puts a record's bytes into a part, and leaves one of another length as it is. Both records have a `write` of their own over it, and
+// share no trait, so that callers import none.
 fn fill(part: &mut [u8], bytes: [u8; 8]) -> Result<(), NotEightBytes>
     ensures { Fills bytes result part.old part.new }
 {

@@ -12,7 +12,7 @@ impl Answer {
     // How many numbers there are to answer with.
     const BOUND: u64 = 1 << 48;
 
-    // Refuses a number that six bytes do not hold.
+    // Refuses a number that six bytes do not hold. In the form of std's `NonZero::new` and `get`: there is one way to fail.
     pub fn new(value: u64) -> Option<Answer>
         ensures { MatchOption result (2 ^ 48 ≤ value) (λ a. (value < 2 ^ 48) × (a.value ≡ value)) }
     {

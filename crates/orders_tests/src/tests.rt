@@ -21,6 +21,7 @@ fn reads(rt: &impl Abort, file: &[u8], next: Next<'_>, place: usize) {
 // A record that is whole, read whole and cut at every length.
 fn reads_whole_and_cut(rt: &impl Abort, record: &[u8], order: Order<'_>) {
     reads(rt, record, Ok(Some(order)), record.len());
+    // by length: there is no iterator over the fronts of a slice
     for length in 1..record.len() {
         reads(rt, &record[0..length], Err(CUT_SHORT), 0);
     }

@@ -7,7 +7,7 @@ use stores::store::Store;
 
 pub trait Filter {
     // Takes from each cell that the rule names the ranks that no choice that meets the rule gives it, and answers how many went.
-    // Where it refuses, the store is as it was.
+    // Where it refuses, the store is as it was. The rows stand as they are sent, so callers make no rule first.
     fn filter<S: Store>(
         &self,
         store: &mut S,

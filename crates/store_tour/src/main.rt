@@ -56,6 +56,7 @@ fn end<E: Into<u8> + Drop>(
 
 // The sets of the cells, each as its ranks.
 fn show<S: Store>(rt: &HostRuntime, store: &S) -> io::Result<()> {
+    // by number: a store hands out no slice of cells to go over
     for cell in 0..store.size().cells {
         if let Some(part) = store.read(cell) {
             show_cell(rt, cell, part)?;

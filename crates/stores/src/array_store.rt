@@ -9,6 +9,7 @@ use crate::store::{CELLS, Size, Store};
 use domains::domain::Domain;
 use std::alloc::AllocError;
 
+// A plain array with its count, and no vector of fixed room, since a store is `Copy`.
 pub struct ArrayStore<C: Cell> {
     cells: usize,
     width: usize,

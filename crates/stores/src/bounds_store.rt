@@ -24,6 +24,7 @@ impl Bounds {
         ensures { Gapless part.mask → run result.low result.high ≡ part.mask }
     {
         Bounds {
+            // ranks are below 48: a `try_from` would only be unwrapped
             low: part.lowest() as u8,
             high: part.highest() as u8,
         }

@@ -39,7 +39,8 @@ pub trait Store {
     fn read(&self, cell: usize) -> Option<Domain>
         ensures { MatchOption result (length (cells self.now) ≤ cell) (λ d. (cell < length (cells self.now)) × (d.mask ≡ slice_index (cells self.now) cell)) };
 
-    // Gives a cell a set.
+    // Gives a cell a set. The clauses `width` and `rest`, which code over stores repeats, are of a store before and after: no type can
+    // carry them.
     fn write(&mut self, cell: usize, part: Domain) -> Result<(), WriteFault>
         ensures outcome { MatchResult result (λ _. Accepted holds (length (cells self.old)) (width self.old) cell part.mask × (cells self.new ≡ slice_set (cells self.old) cell part.mask)) (λ e. Refused holds (length (cells self.old)) (width self.old) cell part.mask e × (self.new ≡ self.old)) }
         ensures width { width self.new ≡ width self.old }

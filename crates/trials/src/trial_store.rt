@@ -44,7 +44,8 @@ impl<S: Store> TrialStore<S> {
         self.table.len()
     }
 
-    // Opens a trial, and answers its number.
+    // Opens a trial, and answers its number. That the trials before and after lie apart, here and below, is said of two stores: no type
+    // can carry it.
     pub fn open(&mut self) -> Result<u32, TrialFault>
         ensures outcome { OpenAnswers self.old self.new result }
         ensures apart { TrialsApart self.old self.new }
