@@ -78,7 +78,7 @@ mod tests {
         let found = compare_loads(&left, &right);
         assert_eq!(rt; found.weight, Weight::Heavier);
         assert_eq!(rt; found.agreed, 1);
-        let tally = found.decided.ok_or(Fail::new("no grade decided"))?;
+        let tally = found.decided.ok_or_else(|| Fail::new("no grade decided"))?;
         assert_eq!(rt; tally.grade.score, 5);
         assert_eq!(rt; tally.left, 2);
         assert_eq!(rt; tally.right, 1);

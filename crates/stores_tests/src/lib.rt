@@ -30,7 +30,7 @@ mod tests {
         );
         assert_eq!(rt; Domain::full(49), None);
         assert_eq!(rt; Domain::span(2, 4), Domain::new(28));
-        let part = Domain::new(0b101100).ok_or(Fail::new("no set"))?;
+        let part = Domain::new(0b101100).ok_or_else(|| Fail::new("no set"))?;
         assert_eq!(rt; part.lowest(), 2);
         assert_eq!(rt; part.highest(), 5);
         assert_eq!(rt; part.count(), 3);
