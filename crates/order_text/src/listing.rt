@@ -10,7 +10,7 @@ use std::fmt;
 // A longer file is not played.
 pub const LONGEST: usize = 8192;
 
-// A line for each order, up to the end of the file or a fault.
+// A line for each order, up to the end of the file or a fault. Here and below the heap comes with the file, as std's own functions take it.
 fn lines(heap: Global, file: &[u8]) -> Result<String, AllocError>
     ensures { IfOk result (λ s. Lines file.now (string_bytes s)) }
 {

@@ -56,11 +56,9 @@ fn end<E: Into<u8> + Drop>(
 
 // The sets of the cells, each as its ranks.
 fn show<S: Store>(rt: &HostRuntime, store: &S) -> io::Result<()> {
-    // by number: a store hands out no slice of cells to go over
-    for cell in 0..store.size().cells {
-        if let Some(part) = store.read(cell) {
-            show_cell(rt, cell, part)?;
-        }
+    let cells = 0..store.size().cells;
+    for (cell, part) in cells.filter_map(|cell| Some((cell, store.read(cell)?))) {
+        show_cell(rt, cell, part)?;
     }
     Ok(())
 }

@@ -18,6 +18,7 @@ pub fn cap<S: Store>(store: &mut S, cell: usize, rank: usize) -> bool
     let Some(part) = store.read(cell) else {
         return false;
     };
+    // two ways to have no such part, and each is a `false`: there is no miss to hand on
     match part.up_to(rank) {
         Some(kept) => store.write(cell, kept).is_ok(),
         None => false,
