@@ -1,10 +1,10 @@
 -- What the methods of `Domain` compute, in the forms that `grind` applies by itself: it takes a lemma up at the first call in
 -- the conclusion that shows all variables. A first part `x ≡ x` says nothing; it is that call.
-use Rattle.std.proofs.Common.{◌≡◌, ℕ, ◌+◌, ◌-◌, ◌*◌, ◌/◌, ◌%◌, ◌^◌, ◌<◌, ◌≤◌, zero, suc, refl, ap, ◌∙◌, arith, pow-suc, pow_mono, mod-eq_of_lt, zero-mul, div-mul-le_self}
+use Rattle.std.proofs.Common.{◌≡◌, ℕ, ◌+◌, ◌-◌, ◌*◌, ◌/◌, ◌%◌, ◌^◌, ◌<◌, ◌≤◌, zero, suc, refl, ap, subst, ◌∙◌, arith, pow-suc, pow_mono, mod-eq_of_lt, zero-mul, div-mul-le_self}
 use native.Mathlib.Nat.{div-eq_of_lt, div-eq_of_lt-le, mod-le}
 use Rattle.std.specs.Int.{w64}
 use lib.Bits.{bit_and, and_le_l}
-use lib.Count.{ones, count_trailing_zeros}
+use lib.Count.{ones, count_trailing_zeros, count_leading_zeros, leading_top}
 use Rattle.std.proofs.lemmas.Nat.{and_mask, one_shl}
 use Rattle.std.proofs.lemmas.Nat.Bits.{bit_at_above, bit_at-trailing_zeros}
 use Rattle.domains.specs.Sets.{In, size, run, up_to, from}
@@ -24,14 +24,25 @@ lowest_least m k p h l = (bit_at-trailing_zeros w64 m p (omega arith)).2 k l
 
 pub ruleset lowest = (lowest_in, lowest_rank, lowest_least)
 
-pub highest_in : (m j : ℕ) → 2 ^ j ≤ m → m < 2 * 2 ^ j → m / 2 ^ j % 2 ≡ 1
-highest_in m j l h = let e : m / 2 ^ j ≡ 1 = div-eq_of_lt-le (2 ^ j) (omega arith) (omega arith) in omega (arith, e)
+-- the zeros that begin a mask of 64 bits tell its highest rank
+top : (m : ℕ) → 0 < m → m < 2 ^ 48 → (2 ^ (63 - count_leading_zeros 64 m) ≤ m) × (m < 2 ^ suc (63 - count_leading_zeros 64 m))
+top m p h =
+    let t = leading_top 64 m p (omega arith) in
+    let e : t.0 ≡ 63 - count_leading_zeros 64 m = omega (arith, t.1) in
+    subst (λ (j : ℕ). (2 ^ j ≤ m) × (m < 2 ^ suc j)) e (t.2, t.3)
 
-pub highest_most : (m j k : ℕ) → 2 ^ j ≤ m → m < 2 * 2 ^ j → j < k → m / 2 ^ k % 2 ≡ 0
-highest_most m j k l h g = bit_at_above m (suc j) k (omega (arith, pow-suc 2 j)) g
+pub highest_in : (m : ℕ) → 0 < m → m < 2 ^ 48 → m / 2 ^ (63 - count_leading_zeros 64 m) % 2 ≡ 1
+highest_in m p h =
+    let j = 63 - count_leading_zeros 64 m in
+    let t = top m p h in
+    let e : m / 2 ^ j ≡ 1 = div-eq_of_lt-le (2 ^ j) (omega (arith, t.0)) (omega (arith, t.1, pow-suc 2 j)) in
+    omega (arith, e)
 
-pub highest_rank : (m j : ℕ) → 2 ^ j ≤ m → m < 2 * 2 ^ j → m < 2 ^ 48 → (2 ^ j ≡ 2 ^ j) × (j < 48)
-highest_rank m j l h b = (refl, in_below 48 m j b (highest_in m j l h))
+pub highest_most : (m k : ℕ) → 0 < m → m < 2 ^ 48 → 63 - count_leading_zeros 64 m < k → m / 2 ^ k % 2 ≡ 0
+highest_most m k p h g = bit_at_above m (suc (63 - count_leading_zeros 64 m)) k (top m p h).1 g
+
+pub highest_rank : (m : ℕ) → 0 < m → m < 2 ^ 48 → 63 - count_leading_zeros 64 m < 48
+highest_rank m p h = in_below 48 m (63 - count_leading_zeros 64 m) h (highest_in m p h)
 
 pub ruleset highest = (highest_in, highest_most, highest_rank)
 

@@ -79,7 +79,7 @@ impl Domain {
         ensures most { NoRank (λ k. (result < k) × In self.mask k) }
         ensures rank { result < 48 }
     {
-        self.mask.ilog2() as usize
+        63 - self.mask.leading_zeros() as usize
     }
 
     // The part up to a rank, if it has any.
