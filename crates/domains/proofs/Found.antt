@@ -1,26 +1,30 @@
 -- What the methods of `Domain` compute, in the forms that `grind` applies by itself: it takes a lemma up at the first call in
 -- the conclusion that shows all variables. A first part `x ≡ x` says nothing; it is that call.
-use Rattle.std.proofs.Common.{◌≡◌, ℕ, ◌+◌, ◌-◌, ◌*◌, ◌/◌, ◌%◌, ◌^◌, ◌<◌, ◌≤◌, zero, suc, refl, ap, subst, ◌∙◌, arith, pow-suc, pow_mono, mod-eq_of_lt, zero-mul, div-mul-le_self}
-use native.Mathlib.Nat.{div-eq_of_lt, div-eq_of_lt-le, mod-le}
-use Rattle.std.specs.Int.{w64}
+use Rattle.std.proofs.Common.{◌≡◌, ℕ, ◌+◌, ◌-◌, ◌*◌, ◌/◌, ◌%◌, ◌^◌, ◌<◌, ◌≤◌, zero, suc, refl, ap, subst, ◌∙◌, arith, pow-suc, pow_mono, mod-eq_of_lt, mod-lt, zero-mul, div-mul-le_self}
+use native.Mathlib.Nat.{div-eq_of_lt, mod-le}
 use lib.Bits.{bit_and, and_le_l}
 use lib.Count.{ones, count_trailing_zeros, count_leading_zeros, leading_top}
 use Rattle.std.proofs.lemmas.Nat.{and_mask, one_shl}
-use Rattle.std.proofs.lemmas.Nat.Bits.{bit_at_above, bit_at-trailing_zeros}
+use Rattle.std.proofs.lemmas.Nat.Bits.{bit_at_above}
 use Rattle.domains.specs.Sets.{In, size, run, up_to, from}
-use Rattle.domains.proofs.Ranks.{in_below, in_and, in_ones, in_upto, in_from, run_none, run_pos, ones_size}
+use Rattle.domains.proofs.Ranks.{in_below, lowest_is, highest_is, in_and, in_ones, in_upto, in_from, run_none, run_pos, ones_size}
 
 pub none_past : (m k : ℕ) → m < 2 ^ 48 → 48 ≤ k → m / 2 ^ k % 2 ≡ 0
 none_past m k h l = bit_at_above m 48 k h l
 
+none_is : (d : ℕ) → d < 2 → (d ≡ 1 → ⊥) → d ≡ 0
+none_is zero l n = refl
+none_is (suc zero) l n = absurd (n refl)
+none_is (suc (suc d)) l n = absurd (omega arith)
+
 pub lowest_in : (m : ℕ) → 0 < m → m < 2 ^ 48 → m / 2 ^ count_trailing_zeros 64 m % 2 ≡ 1
-lowest_in m p h = (bit_at-trailing_zeros w64 m p (omega arith)).1
+lowest_in m p h = (lowest_is 64 m p (omega arith)).0
 
 pub lowest_rank : (m : ℕ) → 0 < m → m < 2 ^ 48 → count_trailing_zeros 64 m < 48
 lowest_rank m p h = in_below 48 m (count_trailing_zeros 64 m) h (lowest_in m p h)
 
 pub lowest_least : (m k : ℕ) → 0 < m → m < 2 ^ 48 → k < count_trailing_zeros 64 m → m / 2 ^ k % 2 ≡ 0
-lowest_least m k p h l = (bit_at-trailing_zeros w64 m p (omega arith)).2 k l
+lowest_least m k p h l = none_is (m / 2 ^ k % 2) (mod-lt (m / 2 ^ k) {m = 2} (omega arith)) ((lowest_is 64 m p (omega arith)).1 k l)
 
 pub ruleset lowest = (lowest_in, lowest_rank, lowest_least)
 
@@ -32,14 +36,11 @@ top m p h =
     subst (λ (j : ℕ). (2 ^ j ≤ m) × (m < 2 ^ suc j)) e (t.2, t.3)
 
 pub highest_in : (m : ℕ) → 0 < m → m < 2 ^ 48 → m / 2 ^ (63 - count_leading_zeros 64 m) % 2 ≡ 1
-highest_in m p h =
-    let j = 63 - count_leading_zeros 64 m in
-    let t = top m p h in
-    let e : m / 2 ^ j ≡ 1 = div-eq_of_lt-le (2 ^ j) (omega (arith, t.0)) (omega (arith, t.1, pow-suc 2 j)) in
-    omega (arith, e)
+highest_in m p h = (highest_is m (63 - count_leading_zeros 64 m) (top m p h).0 (top m p h).1).0
 
 pub highest_most : (m k : ℕ) → 0 < m → m < 2 ^ 48 → 63 - count_leading_zeros 64 m < k → m / 2 ^ k % 2 ≡ 0
-highest_most m k p h g = bit_at_above m (suc (63 - count_leading_zeros 64 m)) k (top m p h).1 g
+highest_most m k p h g =
+    none_is (m / 2 ^ k % 2) (mod-lt (m / 2 ^ k) {m = 2} (omega arith)) ((highest_is m (63 - count_leading_zeros 64 m) (top m p h).0 (top m p h).1).1 k g)
 
 pub highest_rank : (m : ℕ) → 0 < m → m < 2 ^ 48 → 63 - count_leading_zeros 64 m < 48
 highest_rank m p h = in_below 48 m (63 - count_leading_zeros 64 m) h (highest_in m p h)

@@ -1,7 +1,8 @@
 -- The laws of `In`, all of them.
-use Rattle.std.proofs.Common.{◌≡◌, ℕ, zero, suc, ◌+◌, ◌-◌, ◌/◌, ◌%◌, ◌^◌, ◌<◌, ◌≤◌, ◌⊎◌, sym, ap, ◌∙◌, subst, inl, inr, mod-lt, div-add-mod', div-mul-le_self, add-one, one-add, arith, pow_pos, pow_mono, shr-shr, shr_lt}
+use Rattle.std.proofs.Common.{◌≡◌, ℕ, zero, suc, refl, pow-suc, ◌+◌, ◌-◌, ◌/◌, ◌%◌, ◌^◌, ◌<◌, ◌≤◌, ◌⊎◌, sym, ap, ◌∙◌, subst, inl, inr, mod-lt, div-add-mod', div-mul-le_self, add-one, one-add, arith, pow_pos, pow_mono, shr-shr, shr_lt}
+use native.Mathlib.Nat.{div-eq_of_lt-le}
 use lib.Bits.{bit_and}
-use lib.Count.{ones, ones_step, ones-le}
+use lib.Count.{ones, ones_step, ones-le, count_trailing_zeros, under}
 use lib.Pow.{ones_lt}
 use Rattle.std.proofs.lemmas.Bool.{cases_lt, cases_order}
 use Rattle.std.proofs.lemmas.Nat.Bits.{bit_at-zero, bit_at_and, bit_at_ones, bit_at-lt, same_from_bits_below, bit_at_above, bit_at_cat_low, bit_at_cat_high}
@@ -13,6 +14,43 @@ none_above w m k h l i = omega (arith, i, bit_at_above m w k h l)
 
 pub in_below : (w m k : ℕ) → m < 2 ^ w → In m k → k < w
 in_below w m k h i = elim (cases_lt k w) [ inl l ↦ l | inr l ↦ absurd (none_above w m k h l i) ]
+
+-- of the half of a number
+half_div : (m r : ℕ) → m / 2 / 2 ^ r ≡ m / 2 ^ suc r
+half_div m r = shr-shr m 1 r ∙ ap (λ k. m / 2 ^ k) (one-add r)
+
+pub in_half : (m r : ℕ) → In (m / 2) r → In m (suc r)
+in_half m r h = subst (λ (x : ℕ). x % 2 ≡ 1) (half_div m r) h
+
+pub half_in : (m r : ℕ) → In m (suc r) → In (m / 2) r
+half_in m r h = subst (λ (x : ℕ). x % 2 ≡ 1) (sym (half_div m r)) h
+
+half_below : (k n : ℕ) → n < 2 ^ suc k → n / 2 < 2 ^ k
+half_below k n h = shr_lt k 1 (subst (λ (x : ℕ). n < 2 ^ x) (sym (add-one k)) h)
+
+-- the count of the zeros below is the lowest rank
+pub lowest_is : (k n : ℕ) → 0 < n → n < 2 ^ k → In n (count_trailing_zeros k n) × ((j : ℕ) → j < count_trailing_zeros k n → In n j → ⊥)
+unfolding count_trailing_zeros
+lowest_is zero n p h = absurd (omega arith)
+lowest_is (suc k) n p h = go (n % 2) refl (λ q. lowest_is k (n / 2) q (half_below k n h))
+  where
+    go : (d : ℕ) → n % 2 ≡ d → (0 < n / 2 → In (n / 2) (count_trailing_zeros k (n / 2)) × ((j : ℕ) → j < count_trailing_zeros k (n / 2) → In (n / 2) j → ⊥))
+        → In n (under d (count_trailing_zeros k (n / 2))) × ((j : ℕ) → j < under d (count_trailing_zeros k (n / 2)) → In n j → ⊥)
+    go zero e rest =
+        let q : 0 < n / 2 = omega arith in
+        let ih = rest q in
+        (in_half n _ ih.0, λ j. below j ih)
+      where
+        below : (j : ℕ) → (In (n / 2) (count_trailing_zeros k (n / 2)) × ((j : ℕ) → j < count_trailing_zeros k (n / 2) → In (n / 2) j → ⊥)) → j < suc (count_trailing_zeros k (n / 2)) → In n j → ⊥
+        below zero ih l i = omega (arith, i)
+        below (suc j) ih l i = ih.1 j (omega arith) (half_in n j i)
+    go (suc d) e rest = (omega (arith, mod-lt n {m = 2} (omega arith)), λ j l i. omega arith)
+
+-- the highest rank
+pub highest_is : (n j : ℕ) → 2 ^ j ≤ n → n < 2 ^ suc j → In n j × ((k : ℕ) → j < k → In n k → ⊥)
+highest_is n j l h =
+    let e : n / 2 ^ j ≡ 1 = div-eq_of_lt-le (2 ^ j) (omega arith) (omega (arith, pow-suc 2 j)) in
+    (omega (arith, e), λ k g i. none_above (suc j) n k h g i)
 
 -- a part that is 0 has nothing in it
 pub none_in_zero : (k : ℕ) → In 0 k → ⊥
@@ -115,12 +153,6 @@ in_and a b k =
     (λ i. (omega (arith, e), omega (arith, e)), λ i j. omega (arith, e))
 
 -- how many ranks
-half_div : (m r : ℕ) → m / 2 / 2 ^ r ≡ m / 2 ^ suc r
-half_div m r = shr-shr m 1 r ∙ ap (λ k. m / 2 ^ k) (one-add r)
-
-half_below : (k n : ℕ) → n < 2 ^ suc k → n / 2 < 2 ^ k
-half_below k n h = shr_lt k 1 (subst (λ (x : ℕ). n < 2 ^ x) (sym (add-one k)) h)
-
 div_one : (m : ℕ) → m / 2 ^ 0 ≡ m
 div_one m = omega arith
 

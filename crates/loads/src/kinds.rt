@@ -49,7 +49,6 @@ impl Hand {
 }
 
 // Not derived: a derive would put the earlier year lower.
-// By hand: a derive would make the later year the higher.
 impl Ord for Hand {
     ghost cmp = { by_hand };
 

@@ -1,3 +1,5 @@
+pub mod Bounds
 pub mod Faults
 pub mod Kept
+pub mod Runs
 pub mod Stores

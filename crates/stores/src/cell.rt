@@ -11,8 +11,9 @@ pub trait Cell: Copy {
     // Which sets the kind can hold.
     ghost holds: { ℕ → Type 0 };
 
-    // What stands where no cell is laid out.
-    fn blank() -> Self;
+    // What stands where no cell is laid out: rank 0 alone, which every kind can hold.
+    fn blank() -> Self
+        ensures { mask result ≡ 1 };
 
     // Keeps a set; none where the kind cannot hold it.
     fn keep(part: Domain) -> Option<Self>

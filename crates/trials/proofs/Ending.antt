@@ -12,6 +12,12 @@ all_rear : (P : Trial → Type 0) (xs ys : List Trial) → AllByRecursion P (xs 
 all_rear P [] ys h = h
 all_rear P (x ∷ xs) ys h = all_rear P xs ys h.1
 
+same_first : (x y : Trial) (xs ys : List Trial) → x ∷ xs ≡ y ∷ ys → x ≡ y
+same_first x y xs ys e = cc
+
+same_rest : (x y : Trial) (xs ys : List Trial) → x ∷ xs ≡ y ∷ ys → xs ≡ ys
+same_rest x y xs ys e = cc
+
 -- a trial that ends has what every open one has, and so have the older ones
 pub ends_that : (P : Trial → Type 0) (t : ℕ) (before : List Trial) (that : Trial) (older : List Trial) → Ends t before that older → AllByRecursion P before → P that × AllByRecursion P older
 ends_that P t before that older e h = all_rear P e.newer (that ∷ older) (subst (AllByRecursion P) e.split h)

@@ -46,12 +46,12 @@ same_apart n t u q = apart_same t.granted (trials_over n t) u.granted (trials_ov
 
 -- a trial of the table is opened, with the masks of the cells
 module _ {S : Type 0} (m : Ghosts S) (b : S) (t u : TrialTable) (xs : List ℕ) where
-  abbrev Answered : Result ℕ TrialFault → Type 0
+  abbrev pub Answered : Result ℕ TrialFault → Type 0
   Answered r = MatchResult r (λ k. Opens (trials_of t) t.granted (record { number = k; note = 0; masks = xs }) (trials_of u) u.granted) (λ e. CannotOpen (trials_of t) t.granted e × (u ≡ t))
 
-  pub open_sound : Savable m.holds (m.width b) (length (m.cells b)) xs → (r : Result ℕ TrialFault) → Answered r → ∥ Sound m b t ∥₁ → ∥ Sound m b u ∥₁
-  open_sound can (Ok k) o h = ∥∥₁_map h (λ k. subst (AllByRecursion (λ x. Savable m.holds (m.width b) (length (m.cells b)) x.masks)) (sym o.front) (can, k))
-  open_sound can (Err e) o h = subst (λ (v : TrialTable). ∥ Sound m b v ∥₁) (sym o.1) h
+  pub opened_sound : Savable m.holds (m.width b) (length (m.cells b)) xs → (r : Result ℕ TrialFault) → Answered r → ∥ Sound m b t ∥₁ → ∥ Sound m b u ∥₁
+  opened_sound can (Ok k) o h = ∥∥₁_map h (λ k. subst (AllByRecursion (λ x. Savable m.holds (m.width b) (length (m.cells b)) x.masks)) (sym o.front) (can, k))
+  opened_sound can (Err e) o h = subst (λ (v : TrialTable). ∥ Sound m b v ∥₁) (sym o.1) h
 
   module _ (same : take (length (m.cells b)) xs ≡ m.cells b) where
     over : (k : ℕ) → Opens (trials_of t) t.granted (record { number = k; note = 0; masks = xs }) (trials_of u) u.granted
@@ -81,9 +81,9 @@ module _ {S : Type 0} {m : Ghosts S} (s : TrialStore S m) (u : TrialTable) (n : 
   abbrev EndAnswered : Result Saved TrialFault → Type 0
   EndAnswered r = MatchResult r (λ x. Ends n (trials_of s.table) (trial x) (trials_of u) × (u.granted ≡ s.table.granted)) (λ e. CannotEnd n (trials_of s.table) e × (u ≡ s.table))
 
-  pub end_sound : (r : Result Saved TrialFault) → EndAnswered r → ∥ Sound m s.below u ∥₁
-  end_sound (Ok x) o = ∥∥₁_map s.sound (λ h. (ends_that (λ y. Savable m.holds (m.width s.below) (length (m.cells s.below)) y.masks) n (trials_of s.table) (trial x) (trials_of u) o.0 h).1)
-  end_sound (Err e) o = subst (λ (v : TrialTable). ∥ Sound m s.below v ∥₁) (sym o.1) s.sound
+  pub ended_sound : (r : Result Saved TrialFault) → EndAnswered r → ∥ Sound m s.below u ∥₁
+  ended_sound (Ok x) o = ∥∥₁_map s.sound (λ h. (ends_that (λ y. Savable m.holds (m.width s.below) (length (m.cells s.below)) y.masks) n (trials_of s.table) (trial x) (trials_of u) o.0 h).1)
+  ended_sound (Err e) o = subst (λ (v : TrialTable). ∥ Sound m s.below v ∥₁) (sym o.1) s.sound
 
   module _ (h : ∥ Sound m s.below u ∥₁) where
     abbrev ended : TrialStore S m

@@ -3,3 +3,4 @@ pub mod Capping
 pub mod Ending
 pub mod Layers
 pub mod Places
+pub mod Soundness

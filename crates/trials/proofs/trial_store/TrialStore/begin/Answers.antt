@@ -1,11 +1,11 @@
 use Rattle.std.proofs.Common.{refl}
-use Rattle.trials.proofs.Layers.{same_store, open_outcome, open_sound, open_apart}
+use Rattle.trials.proofs.Layers.{same_store, open_outcome, opened_sound, open_apart}
 use Rattle.trials.proofs.trial_store.TrialStore.begin.Goals as goal
 
 pub invariant_of-self : goal.invariant_of-self
 invariant_of-self g c =
     let s = c.args.self.now in
-    record { sound = open_sound g.S.Store s.below s.table c.open.new.self c.args.masks c.requires.1 c.open.result c.open.ensures s.sound }
+    record { sound = opened_sound g.S.Store s.below s.table c.open.new.self c.args.masks c.requires.1 c.open.result c.open.ensures s.sound }
 
 pub returns : goal.returns
 returns g c =

@@ -1,8 +1,8 @@
-use Rattle.trials.proofs.Layers.{end_sound, end_outcome, end_apart}
+use Rattle.trials.proofs.Layers.{ended_sound, end_outcome, end_apart}
 use Rattle.trials.proofs.trial_store.TrialStore.end.Goals as goal
 
 pub invariant_of-self : goal.invariant_of-self
-invariant_of-self g c = record { sound = end_sound c.args.self.now c.end.new.self c.args.number c.end.result c.end.ensures }
+invariant_of-self g c = record { sound = ended_sound c.args.self.now c.end.new.self c.args.number c.end.result c.end.ensures }
 
 pub returns : goal.returns
 returns g c =

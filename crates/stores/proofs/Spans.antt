@@ -1,0 +1,34 @@
+-- The cells of a store by bounds are the runs from their lowest to their highest ranks.
+use Rattle.std.proofs.Common.{◌≡◌, ℕ, ◌<◌, ◌≤◌, List, length, take, map, get_or, sym, ap, ap₂, ◌∙◌, arith, length-take}
+use Rattle.std.proofs.lemmas.List.{length-map, get_or-map, get_or-take, ext_get_or}
+use Rattle.domains.specs.Sets.{run}
+use Rattle.stores.specs.Bounds.{runs}
+use Rattle.stores.specs.Runs.{runs_length, runs_at}
+use Rattle.stores.specs.declared.bounds_store.Bounds.{Bounds}
+
+abbrev low : Bounds → ℕ
+low c = c.low
+
+abbrev high : Bounds → ℕ
+high c = c.high
+
+abbrev mask : Bounds → ℕ
+mask c = run c.low c.high
+
+any : Bounds
+any = record { low = 0; high = 0; ordered = omega arith; rank = omega arith }
+
+pub cells_are_runs : (n : ℕ) (kept : List Bounds) → n ≤ length kept → map mask (take n kept) ≡ runs n (map low kept) (map high kept)
+cells_are_runs n kept l =
+    ext_get_or 0 (map mask (take n kept)) (runs n (map low kept) (map high kept)) (long ∙ sym (runs_length n (map low kept) (map high kept))) at
+  where
+    long : length (map mask (take n kept)) ≡ n
+    long = omega (arith, length-map (take n kept) mask, length-take n kept)
+
+    at : (k : ℕ) → k < length (map mask (take n kept)) → get_or (map mask (take n kept)) k 0 ≡ get_or (runs n (map low kept) (map high kept)) k 0
+    at k h =
+        let j : k < n = omega (arith, h, long) in
+        let i : k < length (take n kept) = omega (arith, h, length-map (take n kept) mask) in
+        let m : k < length kept = omega arith in
+        get_or-map mask (take n kept) k any 0 i ∙ ap mask (get_or-take n kept k any j)
+        ∙ sym (runs_at n (map low kept) (map high kept) k j ∙ ap₂ run (get_or-map low kept k any 0 m) (get_or-map high kept k any 0 m))
