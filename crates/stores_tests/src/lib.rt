@@ -8,6 +8,7 @@ mod tests {
     use stores::bit_store::BitStore;
     use stores::bounds_store::BoundsStore;
     use stores::store::Store;
+    use trials::rehearsal::{CallAnswer, TrialCall, answer};
     use trials::trial_store::TrialStore;
 
     // 255 where the mask writes no set, else the number of the store's refusal
@@ -82,5 +83,32 @@ mod tests {
         assert!(rt; store.undo(2).is_err());
         assert!(rt; store.undo(1).is_ok());
         assert_eq!(rt; store.read(0), Domain::new(15));
+    }
+
+    // a call's answer, or the number of its refusal
+    fn said(store: &mut TrialStore<BoundsStore>, call: TrialCall) -> Result<CallAnswer, u8> {
+        answer(store, call).map_err(u8::from)
+    }
+
+    #[test]
+    fn calls_and_their_answers(rt: HostRuntime) -> Result<(), Fail> {
+        let mut store = TrialStore::new(BoundsStore::new());
+        assert_eq!(rt; laid(&mut store, 2, 4), Ok(()));
+        let part = Domain::new(6).ok_or_else(|| Fail::new("no set"))?;
+        let gap = Domain::new(5).ok_or_else(|| Fail::new("no set"))?;
+        let write = TrialCall::Write { cell: 0, part };
+        let elsewhere = TrialCall::Write { cell: 2, part };
+        let gapped = TrialCall::Write { cell: 0, part: gap };
+        let opened = CallAnswer::Opened { number: 1 };
+        assert_eq!(rt; said(&mut store, TrialCall::Open), Ok(opened));
+        assert_eq!(rt; said(&mut store, write), Ok(CallAnswer::Written));
+        assert_eq!(rt; said(&mut store, elsewhere), Err(4));
+        assert_eq!(rt; said(&mut store, gapped), Err(8));
+        assert_eq!(rt; store.read(0), Some(part));
+        assert_eq!(rt; said(&mut store, TrialCall::Keep { number: 2 }), Err(12));
+        let ended = CallAnswer::Ended { left: 0 };
+        assert_eq!(rt; said(&mut store, TrialCall::Undo { number: 1 }), Ok(ended));
+        assert_eq!(rt; store.read(0), Domain::full(4));
+        Ok(())
     }
 }

@@ -1,5 +1,5 @@
 -- A list of calls on a store with trials, and what they do, one after another.
-use Rattle.std.specs.Prelude.{◌≡◌, ℕ, ◌+◌, List, [], ◌∷◌, length, Ok, Result, MatchResult, slice_set}
+use Rattle.std.specs.Prelude.{◌≡◌, ℕ, ◌+◌, List, [], ◌∷◌, length, Ok, Err, Result, MatchResult, slice_set}
 use Rattle.stores.specs.Stores.{Accepted, Refused}
 use Rattle.stores.specs.declared.faults.WriteFault.{WriteFault}
 use Rattle.stores.specs.declared.store.Store.{Ghosts}
@@ -8,8 +8,17 @@ use Rattle.trials.specs.TrialStores.{open_trials, OpenAnswers, KeepAnswers, Rest
 use Rattle.trials.specs.declared.trial_store.TrialStore.{TrialStore}
 use Rattle.trials.specs.declared.faults.TrialFault.{TrialFault}
 use Rattle.trials.specs.declared.faults.TrialFault.TheVariants.{TooManyOpen, AllGranted, NotOpen}
+use Rattle.trials.specs.declared.faults.CallFault.{CallFault}
+use Rattle.trials.specs.declared.faults.CallFault.TheVariants.{Write as by_store, Trial as by_trials}
+use Rattle.trials.specs.declared.rehearsal.CallAnswer.{CallAnswer}
+use Rattle.trials.specs.declared.rehearsal.CallAnswer.TheVariants.{Written, Opened, Ended as ended}
 use Rattle.trials.specs.declared.rehearsal.TrialCall.{TrialCall}
 use Rattle.trials.specs.declared.rehearsal.TrialCall.TheVariants.{Write, Open, Undo, Keep}
+
+-- an answer or a refusal of one call, as that of one of several
+abbrev pub told : {A F : Type 0} → (A → CallAnswer) → (F → CallFault) → Result A F → Result CallAnswer CallFault
+told answer fault (Ok a) = Ok (answer a)
+told answer fault (Err f) = Err (fault f)
 
 module _ {S : Type 0} {m : Ghosts S} where
   -- a write of a set to a cell, as on any store; the trials stay
@@ -18,6 +27,13 @@ module _ {S : Type 0} {m : Ghosts S} where
         (λ fault. Refused m.holds (length (m.cells s.below)) (m.width s.below) cell mask fault × (t ≡ s))
     pub scale : m.width t.below ≡ m.width s.below
     pub rest : Rests s t
+
+  -- a call is answered r and takes s to t
+  abbrev pub Answered : TrialCall → TrialStore S m → TrialStore S m → Result CallAnswer CallFault → Type 0
+  Answered (Write cell part) s t r = (w : Result Unit WriteFault) × Writes cell part.mask s t w × (r ≡ told (λ _. Written) by_store w)
+  Answered Open s t r = (w : Result ℕ TrialFault) × OpenAnswers s t w × (r ≡ told Opened by_trials w)
+  Answered (Undo number) s t r = (w : Result ℕ TrialFault) × UndoAnswers number s t w × (r ≡ told ended by_trials w)
+  Answered (Keep number) s t r = (w : Result ℕ TrialFault) × KeepAnswers number s t w × (r ≡ told ended by_trials w)
 
   -- a call, with some answer, takes s to t
   abbrev pub Step : TrialCall → TrialStore S m → TrialStore S m → Type 0

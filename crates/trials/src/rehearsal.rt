@@ -3,9 +3,9 @@ ghost use Rattle.std.specs.Prelude.{◌≡◌, length, IfOk, MatchResult, OnOk};
 ghost use Rattle.trials.specs.Trials.{CannotOpen};
 ghost use Rattle.trials.specs.TrialStores.{open_trials, Undone};
 ghost use Rattle.trials.specs.declared.trial_store.TrialStore.{TrialStore};
-ghost use Rattle.trials.specs.Rehearsals.{Step, Ran, Tried, Rehearsed, NotRehearsed, Back};
+ghost use Rattle.trials.specs.Rehearsals.{Answered, Step, Ran, Tried, Rehearsed, NotRehearsed, Back};
 
-use crate::faults::TrialFault;
+use crate::faults::{CallFault, TrialFault};
 use crate::trial_store::TrialStore;
 use domains::domain::Domain;
 use stores::store::Store;
@@ -19,24 +19,46 @@ pub enum TrialCall {
     Keep { number: u32 },
 }
 
+// What an accepted call answers: nothing more, the number of the trial that it opened, or how many trials remain open.
+#[derive(Clone, Copy, PartialEq, Eq, Debug)]
+pub enum CallAnswer {
+    Written,
+    Opened { number: u32 },
+    Ended { left: usize },
+}
+
+// Makes a call, and answers as the store does.
+pub fn answer<S: Store>(
+    store: &mut TrialStore<S>,
+    call: TrialCall,
+) -> Result<CallAnswer, CallFault>
+    ensures { Answered call store.old store.new result }
+{
+    match call {
+        TrialCall::Write { cell, part } => {
+            store.write(cell, part)?;
+            Ok(CallAnswer::Written)
+        }
+        TrialCall::Open => {
+            let number = store.open()?;
+            Ok(CallAnswer::Opened { number })
+        }
+        TrialCall::Undo { number } => {
+            let left = store.undo(number)?;
+            Ok(CallAnswer::Ended { left })
+        }
+        TrialCall::Keep { number } => {
+            let left = store.keep(number)?;
+            Ok(CallAnswer::Ended { left })
+        }
+    }
+}
+
 // Makes a call, whatever it answers.
 pub fn carry_out<S: Store>(store: &mut TrialStore<S>, call: TrialCall)
     ensures { Step call store.old store.new }
 {
-    match call {
-        TrialCall::Write { cell, part } => {
-            let _ = store.write(cell, part);
-        }
-        TrialCall::Open => {
-            let _ = store.open();
-        }
-        TrialCall::Undo { number } => {
-            let _ = store.undo(number);
-        }
-        TrialCall::Keep { number } => {
-            let _ = store.keep(number);
-        }
-    }
+    let _ = answer(store, call);
 }
 
 // Makes the calls, one after another.
