@@ -39,7 +39,7 @@ pub struct Hand {
 }
 
 impl Hand {
-    // The hand of a class whose year nobody knows: year 0, so every dated hand of the class is lower.
+    // The hand of a class whose year nobody knows: year 0 and no `Option`, as registers write it, so every dated hand of the class is lower.
     pub fn undated(class: u8) -> Hand
         ensures class { result.class ≡ class }
         ensures highest { (dated : Hand) → dated.class ≡ class → (dated.year ≢ 0) → by_hand dated result ≡ Less }

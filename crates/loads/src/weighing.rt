@@ -43,6 +43,7 @@ pub struct Tally<'a, G> {
     pub right: usize,
 }
 
+// Two that differ in the side: one with a flag for it would be read with less ease.
 impl<'a, G> Held<'a, G> {
     // The grade as one that the left load alone has.
     fn on_left(self) -> Tally<'a, G>
@@ -195,7 +196,7 @@ pub fn weigh<G: Grade>(left: &[G], right: &[G]) -> Weight
     compare_loads(left, right).weight
 }
 
-// Whether the left load is lighter than the right or equal to it.
+// Whether the left load is lighter than the right or equal to it. Here and above the two loads are two parameters, as those of `cmp` are.
 pub fn not_heavier<G: Grade>(left: &[G], right: &[G]) -> bool
     ensures { MatchBool result (NotHeavier G.cmp left.now right.now) (NotHeavier G.cmp left.now right.now → ⊥) }
 {

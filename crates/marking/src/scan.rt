@@ -17,7 +17,8 @@ impl Counts<'_> {
         deciding_rank(left, right, RANKS)
     }
 
-    // The highest rank below a bound of which the left has more.
+    // The highest rank below a bound of which the left has more. That ranks are below 48, here and below, is said of numbers: a type for
+    // them would be taken apart at each index.
     fn highest_excess(&self, bound: usize) -> Option<usize>
         requires { bound ≤ 48 }
         ensures { BetaIs (on_left self.now) (on_right self.now) (Some bound) result }

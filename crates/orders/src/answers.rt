@@ -99,11 +99,9 @@ impl AnswerRecord {
     pub fn read(part: &[u8]) -> Option<AnswerRecord>
         ensures { replied result ≡ reply_of part.now }
     {
-        let [first, second, a, b, c, d, e, f] = part else {
-            return None;
-        };
-        let value = u64::from_be_bytes([0, 0, *a, *b, *c, *d, *e, *f]);
-        match (*first, *second) {
+        let [first, second, a, b, c, d, e, f] = *part.as_array::<8>()?;
+        let value = u64::from_be_bytes([0, 0, a, b, c, d, e, f]);
+        match (first, second) {
             DONE => {
                 let answer = Answer::new(value)?;
                 Some(AnswerRecord::Done { answer })

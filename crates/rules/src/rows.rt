@@ -42,7 +42,7 @@ impl Rows<'_> {
         }
     }
 
-    // Whether two places hold the same cell: by loops over the places, which the project's plan wants left by a label.
+    // Whether two places hold the same cell: by two loops left by a label, a form that docs/DECISIONS.md gives the reason for.
     fn has_repeat(&self) -> bool
         requires { (length self.now.left.now ≤ 16) × (length self.now.right.now ≤ 16) }
         ensures { MatchBool result (Repeat (cells self.now)) (Apart (cells self.now)) }

@@ -6,7 +6,7 @@ use crate::store::Store;
 use domains::domain::Domain;
 use std::array;
 
-// The mask of a cell; 0 where there is none.
+// The mask of a cell; 0 where there is none, since the array is as long as a store may be and no set has the mask 0.
 fn mask_at<S: Store>(store: &S, cell: usize) -> u64
     ensures { cell < length (S.cells store.now) → result ≡ slice_index (S.cells store.now) cell }
 {

@@ -1,5 +1,4 @@
 pub mod Calls
-pub mod Capping
 pub mod Ending
 pub mod Layers
 pub mod Places

@@ -15,14 +15,10 @@ pub fn cap<S: Store>(store: &mut S, cell: usize, rank: usize) -> bool
     ensures width { S.width store.new ≡ S.width store.old }
     ensures rest { S.stays store.old store.new }
 {
-    let Some(part) = store.read(cell) else {
+    let Some(kept) = store.read(cell).and_then(|part| part.up_to(rank)) else {
         return false;
     };
-    // two ways to have no such part, and each is a `false`: there is no miss to hand on
-    match part.up_to(rank) {
-        Some(kept) => store.write(cell, kept).is_ok(),
-        None => false,
-    }
+    store.write(cell, kept).is_ok()
 }
 
 // Whether a cell has a part up to a rank, found by a trial. The cells and the open trials are as before.

@@ -3,6 +3,6 @@
 pub struct Saved {
     pub number: u32,
     pub note: usize,
-    // as many as a sheet may have cells: the core takes no heap
+    // as `snapshot` hands them out: a plain array, since this is `Copy`
     pub masks: [u64; 64],
 }

@@ -54,7 +54,8 @@ impl<S: Store> TrialStore<S> {
         self.begin(masks)
     }
 
-    // Opens a trial for which the present masks are saved: what `end` is to the table, and so apart from the snapshot.
+    // Opens a trial for which the present masks are saved. Apart from `open`: its goals are answered by name, and an edit of `open` has to
+    // be refused at the function.
     fn begin(&mut self, masks: [u64; 64]) -> Result<u32, TrialFault>
         requires { (take (length (S.cells self.old.below)) masks ≡ S.cells self.old.below) × (Savable S.holds (S.width self.old.below) (length (S.cells self.old.below)) masks) }
         ensures outcome { OpenAnswers self.old self.new result }
@@ -92,8 +93,8 @@ impl<S: Store> TrialStore<S> {
         Ok(self.trials())
     }
 
-    // A write while trials are open is a plain write to the store below. Apart from `write`: that a refused one leaves the whole as
-    // it was takes a lemma by name, and in `write` itself an edit would be refused at that lemma's use.
+    // A write while trials are open is a plain write to the store below. Apart from `write` for the same reason: that a refused one
+    // leaves the whole as it was takes a lemma by name.
     fn pass_on(&mut self, cell: usize, part: Domain) -> Result<(), WriteFault>
         ensures outcome { MatchResult result (λ _. Accepted S.holds (length (S.cells self.old.below)) (S.width self.old.below) cell part.mask × (S.cells self.new.below ≡ slice_set (S.cells self.old.below) cell part.mask)) (λ e. Refused S.holds (length (S.cells self.old.below)) (S.width self.old.below) cell part.mask e × (self.new ≡ self.old)) }
         ensures width { S.width self.new.below ≡ S.width self.old.below }
