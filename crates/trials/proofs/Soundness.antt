@@ -1,16 +1,16 @@
 -- That what is saved can be written back, with all that it says and not only that it is so: a new store with trials is sound, and
 -- whatever a call leaves is sound where what it found was. The type of a store with trials carries this truncated.
-use Rattle.std.proofs.Common.{arith, sym, refl, subst, ap, ◌∙◌}
-use Rattle.std.specs.Prelude.{◌≡◌, ℕ, ◌<◌, List, [], ◌∷◌, map, length, take, slice_set, Ok, Err, Result, MatchResult}
+use Rattle.std.proofs.Common.{sym, refl, subst, ap, ◌∙◌}
+use Rattle.std.specs.Prelude.{◌≡◌, ℕ, List, [], ◌∷◌, map, length, take, slice_set, Ok, Err, Result, MatchResult}
 use Rattle.std.specs.List.{AllByRecursion}
 use Rattle.std.proofs.lemmas.List.{get_or-take}
 use Rattle.stores.specs.Stores.{Holdable, Laws, Savable, Accepted, Refused}
 use Rattle.stores.specs.declared.store.Store.{Ghosts}
 use Rattle.stores.specs.declared.faults.WriteFault.{WriteFault}
 use Rattle.trials.specs.Saved.{Trial, trial}
-use Rattle.trials.specs.Trials.{trials_of, CannotOpen, Opens, Ends}
-use Rattle.trials.specs.Saving.{of_cells, trials_over, opened, Sound}
-use Rattle.trials.specs.TrialStores.{open_trials, Apart, OpenAnswers, KeepAnswers, Rests, Kept, Undone, UndoAnswers}
+use Rattle.trials.specs.Trials.{trials_of, Ends}
+use Rattle.trials.specs.Saving.{of_cells, trials_over, Sound}
+use Rattle.trials.specs.TrialStores.{open_trials, Apart, OpenAnswers, KeepAnswers, Rests, UndoAnswers}
 use Rattle.trials.specs.Rehearsals.{Step, Ran}
 use Rattle.trials.specs.declared.saved.Saved.{Saved}
 use Rattle.trials.specs.declared.table.TrialTable.{TrialTable}

@@ -28,10 +28,7 @@ pub enum CallAnswer {
 }
 
 // Makes a call, and answers as the store does.
-pub fn answer<S: Store>(
-    store: &mut TrialStore<S>,
-    call: TrialCall,
-) -> Result<CallAnswer, CallFault>
+pub fn answer<S: Store>(store: &mut TrialStore<S>, call: TrialCall) -> Result<CallAnswer, CallFault>
     ensures { Answered call store.old store.new result }
 {
     match call {
