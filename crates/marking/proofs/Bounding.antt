@@ -1,14 +1,12 @@
 -- The marks and the floor give the bounds.
-use Rattle.std.proofs.Common.{◌≡◌, ℕ, ◌+◌, ◌-◌, ◌<◌, ◌≤◌, max, min, true, false, cond, leb, ltb, ◌⊎◌, List, length, get_or, set, Some, None, Option, sym, refl, ◌∙◌, subst, inl, inr, arith}
+use Rattle.std.proofs.Common.{◌≡◌, ℕ, ◌+◌, ◌-◌, ◌<◌, ◌≤◌, max, min, cond, leb, ltb, ◌⊎◌, List, length, get_or, set, Some, None, Option, sym, refl, ◌∙◌, subst, inl, inr, arith}
 use Rattle.std.specs.Prelude.{◌↔◌}
-use Rattle.std.proofs.lemmas.Bool.{cases_eq, cases_lt, cases_order, cond_both, leb-true, leb-false, ltb-true, ltb-false}
+use Rattle.std.proofs.lemmas.Bool.{cases_lt, cases_order, cond_both, leb-true, leb-false, ltb-true, ltb-false}
 use lib.ListN.{get_or-eq_default}
 use Rattle.loads.specs.Kinds.{by_rank}
 use Rattle.loads.specs.Loads.{count, NotHeavier}
-use Rattle.marking.specs.declared.counts.Counts.{Counts}
 use Rattle.marking.specs.declared.marks.Marks.{Marks}
-use Rattle.marking.specs.declared.bounds.Bounds.{Bounds}
-use Rattle.marking.specs.Marks.{on_left, on_right, AlphaIs, OnlyMarks}
+use Rattle.marking.specs.Marks.{occurs, AlphaIs, OnlyMarks}
 use Rattle.marking.specs.Bounds.{Loaded, FewerAtAlpha, IsFloor, left_most, right_least, BoundsOf, Outweighs}
 use Rattle.marking.proofs.Comparing.{AtMost, Same, one, Shifted, Alpha}
 use Rattle.marking.proofs.Order.{above_not_at_most}
@@ -129,19 +127,16 @@ module _ (ox oy : ℕ → ℕ) (px : (h : ℕ) → 48 ≤ h → ox h ≡ 0) (py 
             let e : r ≡ get_or ys i 0 = omega (arith, m, n) in
             (λ _. stays_right e, λ _. right_stays α fl (get_or ys i 0) r e)
 
--- counts in arrays of 48 count nothing from there up
-none_left : (counts : Counts) (h : ℕ) → 48 ≤ h → on_left counts h ≡ 0
-none_left counts h l = get_or-eq_default counts.left.now 0 {n = h} (omega (arith, counts.left_len, l))
+-- a list of 48 counts nothing from there up
+none_past : (counts : List ℕ) → length counts ≡ 48 → (h : ℕ) → 48 ≤ h → occurs counts h ≡ 0
+none_past counts e h l = get_or-eq_default counts 0 {n = h} (omega (arith, e, l))
 
-none_right : (counts : Counts) (h : ℕ) → 48 ≤ h → on_right counts h ≡ 0
-none_right counts h l = get_or-eq_default counts.right.now 0 {n = h} (omega (arith, counts.right_len, l))
+module _ (left : List ℕ) (right : List ℕ) (left_len : length left ≡ 48) (right_len : length right ≡ 48) (m : Marks) (known : OnlyMarks (occurs left) (occurs right) m) where
+  no_alpha_here : m.alpha ≡ None → Same (occurs left) (occurs right)
+  no_alpha_here e = subst (AlphaIs (occurs left) (occurs right)) e known.marked.alpha_is
 
-module _ (counts : Counts) (m : Marks) (known : OnlyMarks (on_left counts) (on_right counts) m) where
-  no_alpha_here : m.alpha ≡ None → Same (on_left counts) (on_right counts)
-  no_alpha_here e = subst (AlphaIs (on_left counts) (on_right counts)) e known.marked.alpha_is
-
-  alpha_here : (α : ℕ) → m.alpha ≡ Some α → AlphaIs (on_left counts) (on_right counts) (Some α)
-  alpha_here α e = subst (AlphaIs (on_left counts) (on_right counts)) e known.marked.alpha_is
+  alpha_here : (α : ℕ) → m.alpha ≡ Some α → AlphaIs (occurs left) (occurs right) (Some α)
+  alpha_here α e = subst (AlphaIs (occurs left) (occurs right)) e known.marked.alpha_is
 
   -- α is one of the ranks counted
   pub ranked : (α : ℕ) → m.alpha ≡ Some α → α < 48
@@ -149,40 +144,42 @@ module _ (counts : Counts) (m : Marks) (known : OnlyMarks (on_left counts) (on_r
     where
       go : (α < 48) ⊎ (48 ≤ α) → α < 48
       go (inl l) = l
-      go (inr l) = absurd ((alpha_here α e).0 (none_left counts α l ∙ sym (none_right counts α l)))
+      go (inr l) = absurd ((alpha_here α e).0 (none_past left left_len α l ∙ sym (none_past right right_len α l)))
 
   -- where the left has more at α, no loads with these counts meet
-  pub outweighs : (α : ℕ) → m.alpha ≡ Some α → on_right counts α < on_left counts α → Outweighs (on_left counts) (on_right counts)
+  pub outweighs : (α : ℕ) → m.alpha ≡ Some α → occurs right α < occurs left α → Outweighs (occurs left) (occurs right)
   outweighs α e l xs ys k n =
-      above_not_at_most (on_left counts) (on_right counts) (α, l, λ h i. sym ((alpha_here α e).1 h i))
-      (meet_loads (on_left counts) (on_right counts) (none_left counts) (none_right counts) xs ys k n)
+      above_not_at_most (occurs left) (occurs right) (α, l, λ h i. sym ((alpha_here α e).1 h i))
+      (meet_loads (occurs left) (occurs right) (none_past left left_len) (none_past right right_len) xs ys k n)
 
   -- and where it has not, it has fewer
-  pub fewer_at_alpha : (α : ℕ) → m.alpha ≡ Some α → on_left counts α ≤ on_right counts α → FewerAtAlpha (on_left counts) (on_right counts) m α
+  pub fewer_at_alpha : (α : ℕ) → m.alpha ≡ Some α → occurs left α ≤ occurs right α → FewerAtAlpha (occurs left) (occurs right) m α
   fewer_at_alpha α e l = record { marked = known.marked; at = e; ranked = ranked α e; fewer = omega (arith, l, (alpha_here α e).0) }
 
   -- without an α nothing may move
-  pub bounds_without_alpha : m.alpha ≡ None → BoundsOf (on_left counts) (on_right counts) (record { marks = m; floor = None })
+  pub bounds_without_alpha : m.alpha ≡ None → BoundsOf (occurs left) (occurs right) (record { marks = m; floor = None })
   bounds_without_alpha e =
-      let ox : ℕ → ℕ = on_left counts in
-      let oy : ℕ → ℕ = on_right counts in
+      let ox : ℕ → ℕ = occurs left in
+      let oy : ℕ → ℕ = occurs right in
       let same : Same ox oy = no_alpha_here e in record {
         marks_are = known;
-        met = λ xs ys k. loads_meet ox oy (none_left counts) (none_right counts) xs ys k (inr same);
-        left = λ xs ys k i r l p. subst (λ (o : Option ℕ). (r ≤ left_most o None (get_or xs i 0)) ↔ NotHeavier by_rank (set xs i r) ys) (sym e) (left_no_alpha ox oy (none_left counts) (none_right counts) (inr same) xs ys k i r l same p);
-        right = λ xs ys k i r l p. subst (λ (o : Option ℕ). (right_least o None (get_or ys i 0) ≤ r) ↔ NotHeavier by_rank xs (set ys i r)) (sym e) (right_no_alpha ox oy (none_left counts) (none_right counts) (inr same) xs ys k i r l same p);
+        met = λ xs ys k. loads_meet ox oy (none_past left left_len) (none_past right right_len) xs ys k (inr same);
+        left = λ xs ys k i r l p. subst (λ (o : Option ℕ). (r ≤ left_most o None (get_or xs i 0)) ↔ NotHeavier by_rank (set xs i r) ys) (sym e) (left_no_alpha ox oy (none_past left left_len) (none_past right right_len) (inr same) xs ys k i r l same p);
+        right = λ xs ys k i r l p. subst (λ (o : Option ℕ). (right_least o None (get_or ys i 0) ≤ r) ↔ NotHeavier by_rank xs (set ys i r)) (sym e) (right_no_alpha ox oy (none_past left left_len) (none_past right right_len) (inr same) xs ys k i r l same p);
       }
 
   -- with one, as far as the floor says
-  pub bounds_with_floor : (α fl : ℕ) → m.alpha ≡ Some α → on_left counts α ≤ on_right counts α → IsFloor (on_left counts) (on_right counts) α fl
-      → BoundsOf (on_left counts) (on_right counts) (record { marks = m; floor = Some fl })
+  pub bounds_with_floor : (α fl : ℕ) → m.alpha ≡ Some α → occurs left α ≤ occurs right α → IsFloor (occurs left) (occurs right) α fl
+      → BoundsOf (occurs left) (occurs right) (record { marks = m; floor = Some fl })
   bounds_with_floor α fl e n floor =
-      let ox : ℕ → ℕ = on_left counts in
-      let oy : ℕ → ℕ = on_right counts in
+      let ox : ℕ → ℕ = occurs left in
+      let oy : ℕ → ℕ = occurs right in
       let a : Alpha ox oy α = (omega (arith, n, (alpha_here α e).0), (alpha_here α e).1) in
       let less : AtMost ox oy = inl (α, a.0, a.1) in record {
         marks_are = known;
-        met = λ xs ys k. loads_meet ox oy (none_left counts) (none_right counts) xs ys k less;
-        left = λ xs ys k i r l p. subst (λ (o : Option ℕ). (r ≤ left_most o (Some fl) (get_or xs i 0)) ↔ NotHeavier by_rank (set xs i r) ys) (sym e) (left_alpha ox oy (none_left counts) (none_right counts) less xs ys k i r l α fl a floor p);
-        right = λ xs ys k i r l p. subst (λ (o : Option ℕ). (right_least o (Some fl) (get_or ys i 0) ≤ r) ↔ NotHeavier by_rank xs (set ys i r)) (sym e) (right_alpha ox oy (none_left counts) (none_right counts) less xs ys k i r l α fl a floor p);
+        met = λ xs ys k. loads_meet ox oy (none_past left left_len) (none_past right right_len) xs ys k less;
+        left = λ xs ys k i r l p. subst (λ (o : Option ℕ). (r ≤ left_most o (Some fl) (get_or xs i 0)) ↔ NotHeavier by_rank (set xs i r) ys) (sym e) (left_alpha ox oy (none_past left left_len) (none_past right right_len) less xs ys k i r l α fl a floor p);
+        right = λ xs ys k i r l p. subst (λ (o : Option ℕ). (right_least o (Some fl) (get_or ys i 0) ≤ r) ↔ NotHeavier by_rank xs (set ys i r)) (sym e) (right_alpha ox oy (none_past left left_len) (none_past right right_len) less xs ys k i r l α fl a floor p);
       }
+
+pub ruleset bounds = (ranked, outweighs, fewer_at_alpha, bounds_without_alpha, bounds_with_floor)
