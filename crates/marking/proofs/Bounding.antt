@@ -2,7 +2,6 @@
 use Rattle.std.proofs.Common.{◌≡◌, ℕ, ◌+◌, ◌-◌, ◌<◌, ◌≤◌, max, min, cond, leb, ltb, ◌⊎◌, List, length, get_or, set, Some, None, Option, sym, refl, ◌∙◌, subst, inl, inr, arith}
 use Rattle.std.specs.Prelude.{◌↔◌}
 use Rattle.std.proofs.lemmas.Bool.{cases_lt, cases_order, cond_both, leb-true, leb-false, ltb-true, ltb-false}
-use lib.ListN.{get_or-eq_default}
 use Rattle.loads.specs.Kinds.{by_rank}
 use Rattle.loads.specs.Loads.{count, NotHeavier}
 use Rattle.marking.specs.declared.marks.Marks.{Marks}
@@ -11,7 +10,7 @@ use Rattle.marking.specs.Bounds.{Loaded, FewerAtAlpha, IsFloor, left_most, right
 use Rattle.marking.proofs.Comparing.{AtMost, Same, one, Shifted, Alpha}
 use Rattle.marking.proofs.Order.{above_not_at_most}
 use Rattle.marking.proofs.Shifts.{no_alpha, under_alpha, over_alpha}
-use Rattle.marking.proofs.Verdict.{by_loads, to_loads, raised_shift, lowered_shift, loads_meet, meet_loads}
+use Rattle.marking.proofs.Verdict.{by_loads, to_loads, raised_shift, lowered_shift, loads_meet, meet_loads, none_past}
 
 -- where nothing moves the bounds allow it
 left_stays : (α fl a r : ℕ) → a ≡ r → r ≤ left_most (Some α) (Some fl) a
@@ -126,10 +125,6 @@ module _ (ox oy : ℕ → ℕ) (px : (h : ℕ) → 48 ≤ h → ox h ≡ 0) (py 
         go (inr n) =
             let e : r ≡ get_or ys i 0 = omega (arith, m, n) in
             (λ _. stays_right e, λ _. right_stays α fl (get_or ys i 0) r e)
-
--- a list of 48 counts nothing from there up
-none_past : (counts : List ℕ) → length counts ≡ 48 → (h : ℕ) → 48 ≤ h → occurs counts h ≡ 0
-none_past counts e h l = get_or-eq_default counts 0 {n = h} (omega (arith, e, l))
 
 module _ (left : List ℕ) (right : List ℕ) (left_len : length left ≡ 48) (right_len : length right ≡ 48) (m : Marks) (known : OnlyMarks (occurs left) (occurs right) m) where
   no_alpha_here : m.alpha ≡ None → Same (occurs left) (occurs right)
