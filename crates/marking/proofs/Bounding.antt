@@ -4,6 +4,7 @@ use Rattle.std.specs.Prelude.{◌↔◌}
 use Rattle.std.proofs.lemmas.Bool.{cases_lt, cases_order, cond_both, leb-true, leb-false, ltb-true, ltb-false}
 use Rattle.loads.specs.Kinds.{by_rank}
 use Rattle.loads.specs.Loads.{count, NotHeavier}
+use Rattle.marking.specs.declared.bounds.Bounds.{Bounds}
 use Rattle.marking.specs.declared.marks.Marks.{Marks}
 use Rattle.marking.specs.Marks.{occurs, AlphaIs, OnlyMarks}
 use Rattle.marking.specs.Bounds.{Loaded, FewerAtAlpha, IsFloor, left_most, right_least, BoundsOf, Outweighs}
@@ -12,16 +13,25 @@ use Rattle.marking.proofs.Order.{above_not_at_most}
 use Rattle.marking.proofs.Shifts.{no_alpha, under_alpha, over_alpha}
 use Rattle.marking.proofs.Verdict.{by_loads, to_loads, raised_shift, lowered_shift, loads_meet, meet_loads, none_past}
 
--- where nothing moves the bounds allow it
-left_stays : (α fl a r : ℕ) → a ≡ r → r ≤ left_most (Some α) (Some fl) a
-left_stays α fl a r e = omega (arith, e)
+-- the bounds allow what is there, and name ranks
+pub left_keeps : (α fl : Option ℕ) (a : ℕ) → a ≤ left_most α fl a
+left_keeps None fl a = omega arith
+left_keeps (Some α) None a = omega arith
+left_keeps (Some α) (Some fl) a = omega arith
 
-right_stays : (α fl b r : ℕ) → r ≡ b → right_least (Some α) (Some fl) b ≤ r
-right_stays α fl b r e =
-    cond_both (ltb b α) 0 (cond (ltb α b) b (min fl b)) (λ z. z ≤ r) (λ _. omega arith) (λ _.
-    cond_both (ltb α b) b (min fl b) (λ z. z ≤ r) (λ _. omega (arith, e)) (λ _. omega (arith, e)))
+pub right_keeps : (α fl : Option ℕ) (b : ℕ) → right_least α fl b ≤ b
+right_keeps None fl b = omega arith
+right_keeps (Some α) None b = omega arith
+right_keeps (Some α) (Some fl) b =
+    cond_both (ltb b α) 0 (cond (ltb α b) b (min fl b)) (λ z. z ≤ b) (λ _. omega arith) (λ _.
+    cond_both (ltb α b) b (min fl b) (λ z. z ≤ b) (λ _. omega arith) (λ _. omega arith))
 
--- and where something moves, they are told by what holds below α, above it, and at it
+pub left_below : (d : ℕ) (α fl : Option ℕ) (a : ℕ) → ((x : ℕ) → α ≡ Some x → x < d) → a < d → left_most α fl a < d
+left_below d None fl a p l = l
+left_below d (Some α) None a p l = l
+left_below d (Some α) (Some fl) a p l = cond_both (leb fl a) α (α - 1) (λ z. max a z < d) (λ _. omega (arith, p α refl, l)) (λ _. omega (arith, p α refl, l))
+
+-- where something moves, they are told by what holds below α, above it, and at it
 left_within : (α fl a r : ℕ) (N : Type 0) → a < r → (r < α → N) → (α < r → N → ⊥) → (r ≡ α → (fl ≤ a) ↔ N) → (r ≤ left_most (Some α) (Some fl) a) ↔ N
 left_within α fl a r N l under over at = go (cases_order r α)
   where
@@ -110,7 +120,7 @@ module _ (ox oy : ℕ → ℕ) (px : (h : ℕ) → 48 ≤ h → ox h ≡ 0) (py 
             (λ u. to_loads (set xs i r) ys (under_alpha ox oy in_raised in_ys a r n raised α x u))
             (λ u w. over_alpha ox oy in_raised in_ys a r n raised α x u (by_loads (set xs i r) ys w))
             (at n)
-        go (inr n) = (λ _. left_still (omega (arith, m, n)), λ _. left_stays α fl a r (omega (arith, m, n)))
+        go (inr n) = (λ _. left_still (omega (arith, m, n)), λ _. omega (arith, left_keeps (Some α) (Some fl) a, n))
 
   -- a right member b lowered to r
   module _ (b : ℕ) (b_is : get_or ys i 0 ≡ b) (l : i < length ys) (m : r ≤ b) where
@@ -136,7 +146,7 @@ module _ (ox oy : ℕ → ℕ) (px : (h : ℕ) → 48 ≤ h → ox h ≡ 0) (py 
             (λ u. to_loads xs (set ys i r) (under_alpha ox oy in_xs in_lowered r b n lowered α x u))
             (λ u w. over_alpha ox oy in_xs in_lowered r b n lowered α x u (by_loads xs (set ys i r) w))
             (λ e. floor.lowered xs ys k i r l (b_is ∙ e) (omega (arith, n, e)))
-        go (inr n) = (λ _. right_still (omega (arith, m, n)), λ _. right_stays α fl b r (omega (arith, m, n)))
+        go (inr n) = (λ _. right_still (omega (arith, m, n)), λ _. omega (arith, right_keeps (Some α) (Some fl) b, n))
 
 -- The same of the counts in two arrays, and their marks.
 module _ (left : List ℕ) (right : List ℕ) (left_len : length left ≡ 48) (right_len : length right ≡ 48) (m : Marks) (known : OnlyMarks (occurs left) (occurs right) m) where
@@ -196,6 +206,11 @@ module _ (left : List ℕ) (right : List ℕ) (left_len : length left ≡ 48) (r
       bounds_by (Some α) (Some fl) e less
       (λ xs ys k i r l p. left_alpha (occurs left) (occurs right) none_left none_right less xs ys k i r (get_or xs i 0) refl l p α fl x floor)
       (λ xs ys k i r l p. right_alpha (occurs left) (occurs right) none_left none_right less xs ys k i r (get_or ys i 0) refl l p α fl x floor)
+
+-- a bound of a left member is a rank
+pub left_ranked : (left : List ℕ) (right : List ℕ) → length left ≡ 48 → length right ≡ 48 → (b : Bounds) → BoundsOf (occurs left) (occurs right) b → (a : ℕ) → a < 48
+    → left_most b.marks.alpha b.floor a < 48
+left_ranked left right e f b of a l = left_below 48 b.marks.alpha b.floor a (ranked left right e f b.marks of.marks_are) l
 
 -- what is decided of two counts
 pub ruleset bounds = (ranked, outweighs, fewer_at_alpha, bounds_without_alpha, bounds_with_floor)
