@@ -1,0 +1,4 @@
+// Filtering by one rule, decided by the marks of two counts.
+#![tactic(auto)]
+
+pub mod sides;

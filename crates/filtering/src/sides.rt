@@ -1,0 +1,25 @@
+// The two rows of a rule, and what differs between them.
+ghost use Rattle.std.specs.Prelude.{◌≡◌, ◌<◌};
+ghost use Rattle.filtering.specs.Sides.{best};
+
+use domains::domain::Domain;
+
+#[derive(Clone, Copy)]
+pub(crate) enum Side {
+    Left,
+    Right,
+}
+
+impl Side {
+    // The rank of a cell's set that is best for the rule: its lowest on the left, its highest on the right.
+    #[tactic(auto, using(crate::proofs::Best::lowest_found, crate::proofs::Best::highest_found))]
+    pub(crate) fn best(self, part: Domain) -> usize
+        ensures value { result ≡ best self part.mask }
+        ensures rank { result < 48 }
+    {
+        match self {
+            Side::Left => part.lowest(),
+            Side::Right => part.highest(),
+        }
+    }
+}
