@@ -1,2 +1,3 @@
 pub mod Best
 pub mod Joined
+pub mod Tally

@@ -1,6 +1,7 @@
 -- What is best for a rule: the lowest rank of a left cell, and the highest of a right cell.
-use Rattle.std.specs.Prelude.{ℕ, ◌-◌}
+use Rattle.std.specs.Prelude.{ℕ, ◌-◌, List, map}
 use Rattle.std.specs.Int.Count.{count_trailing_zeros, count_leading_zeros}
+use Rattle.rules.specs.Families.{family}
 use Rattle.filtering.specs.declared.sides.Side.{Side}
 use Rattle.filtering.specs.declared.sides.Side.TheVariants.{Left, Right}
 
@@ -15,3 +16,7 @@ highest m = 63 - count_leading_zeros 64 m
 abbrev pub best : Side → ℕ → ℕ
 best Left m = lowest m
 best Right m = highest m
+
+-- the best rank of each cell of a row
+abbrev pub bests : Side → List ℕ → List ℕ → List ℕ
+bests side cs row = map (λ c. best side (family cs c)) row
