@@ -1,3 +1,4 @@
+pub mod Bounding
 pub mod Comparing
 pub mod Finding
 pub mod Order
