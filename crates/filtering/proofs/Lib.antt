@@ -1,3 +1,4 @@
 pub mod Best
+pub mod Verdicts
 pub mod Joined
 pub mod Tally
