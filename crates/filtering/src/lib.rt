@@ -2,6 +2,8 @@
 #![tactic(auto)]
 
 pub mod bounding;
+pub mod by_marks;
 pub mod counting;
+pub mod cutting;
 pub mod marks;
 pub mod sides;

@@ -1,8 +1,10 @@
 // The two rows of a rule, and what differs between them.
-ghost use Rattle.std.specs.Prelude.{◌≡◌, ◌<◌};
+ghost use Rattle.std.specs.Prelude.{◌≡◌, ◌<◌, MatchOption};
+ghost use Rattle.filtering.specs.Bounded.{kept};
 ghost use Rattle.filtering.specs.Sides.{best};
 
 use domains::domain::Domain;
+use marking::bounds::Bounds;
 
 #[derive(Clone, Copy)]
 pub(crate) enum Side {
@@ -20,6 +22,17 @@ impl Side {
         match self {
             Side::Left => part.lowest(),
             Side::Right => part.highest(),
+        }
+    }
+
+    // What the bounds leave of a cell's set.
+    pub(crate) fn keep(self, bounds: Bounds, part: Domain) -> Option<Domain>
+        ensures { MatchOption result (kept self bounds part.mask ≡ 0) (λ d. d.mask ≡ kept self bounds part.mask) }
+    {
+        let best = self.best(part);
+        match self {
+            Side::Left => part.up_to(bounds.left_most(best)),
+            Side::Right => part.from(bounds.right_least(best)),
         }
     }
 }
