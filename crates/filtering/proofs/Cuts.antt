@@ -12,7 +12,7 @@ use Rattle.rules.specs.Rows.{Apart}
 use Rattle.filtering.specs.Bounded.{kept}
 use Rattle.filtering.specs.Cuts.{CellCut, Cut}
 use Rattle.filtering.specs.declared.sides.Side.{Side}
-use Rattle.filtering.proofs.Joined.{at}
+use Rattle.filtering.proofs.Joined.{at_place}
 use Rattle.filtering.proofs.Kept.{kept_fewer, size_le}
 
 difference : (x y a b : ℕ) → x ≡ a → y ≡ b → b ≤ a → x - y + b ≡ a
@@ -37,14 +37,19 @@ cut_none g cs = record { count = refl; named = λ c m. absurd (omega (arith, m.1
 pub total_few : (cs : List ℕ) → length cs ≤ 64 → total cs ≤ 3072
 total_few cs l = omega (arith, sum_by-le size 48 cs (All-from_get_or (λ m. size m ≤ 48) cs 0 (λ i h. size_le 48 (get_or cs i 0))))
 
-pub small_sum : (a b t u : ℕ) → a + b + t ≡ u → u ≤ 3072 → Fits w64 (a + b)
-small_sum a b t u e l = omega arith
+-- what went in all fits, and one cell more does too
+pub sum_fits : (a b t u : ℕ) → a + b + t ≡ u → u ≤ 3072 → Fits w64 (a + b)
+sum_fits a b t u e l = omega arith
 
-module _ (g : ℕ → ℕ) (row cs0 cs cs' : List ℕ) (i went w : ℕ) (l : i < length row) (far : Apart row) (within : get_or row i 0 < length cs0)
+pub more_fits : {g : ℕ → ℕ} {row cs0 cs cs' : List ℕ} {cell went w : ℕ} → length cs0 ≤ 64 → Cut g row cs0 cs went → CellCut g cs cs' cell w → Fits w64 (went + w)
+more_fits {g = g} {cs0 = cs0} {cs = cs} {cell = cell} {went = went} {w = w} few cut one =
+    within went w (total cs) (total cs0) (size (g (family cs cell))) (size (family cs cell)) cut.fewer (total_few cs0 few) one.fewer (size_le 48 (family cs cell))
+  where
+    within : (a b t u x y : ℕ) → a + t ≡ u → u ≤ 3072 → b + x ≡ y → y ≤ 48 → Fits w64 (a + b)
+    within a b t u x y e l f h = omega arith
+
+module _ {g : ℕ → ℕ} {cs0 cs cs' : List ℕ} {went w : ℕ} (row : List ℕ) (i : ℕ) (l : i < length row) (far : Apart row) (within : get_or row i 0 < length cs0)
     (cut : Cut g (take i row) cs0 cs went) (one : CellCut g cs cs' (get_or row i 0) w) where
-  c : ℕ
-  c = get_or row i 0
-
   front : length (take i row) ≡ i
   front = length-take-le i row (omega (arith, l))
 
@@ -52,7 +57,7 @@ module _ (g : ℕ → ℕ) (row cs0 cs cs' : List ℕ) (i went w : ℕ) (l : i <
   fresh : (x : ℕ) → Contains (take i row) x → x ≡ get_or row i 0 → ⊥
   fresh x m e =
       let j : m.0 < i = omega (arith, m.1, front) in
-      far m.0 i j l (sym (get_or-take i row m.0 0 j) ∙ at (take i row) x m ∙ e)
+      far m.0 i j l (sym (get_or-take i row m.0 0 j) ∙ at_place (take i row) x m ∙ e)
 
   within_now : get_or row i 0 < length cs
   within_now = omega (arith, within, cut.count)
@@ -84,7 +89,7 @@ module _ (g : ℕ → ℕ) (row cs0 cs cs' : List ℕ) (i went w : ℕ) (l : i <
           last m = go (cases_eq m.0 0)
             where
               go : (m.0 ≡ 0) ⊎ (m.0 ≡ 0 → ⊥) → get_or row i 0 ≡ x
-              go (inl e) = sym (ap (λ (k : ℕ). get_or (get_or row i 0 ∷ []) k 0) e) ∙ at (get_or row i 0 ∷ []) x m
+              go (inl e) = sym (ap (λ (k : ℕ). get_or (get_or row i 0 ∷ []) k 0) e) ∙ at_place (get_or row i 0 ∷ []) x m
               go (inr n) = absurd (omega (arith, m.1, n))
 
   pub cut_more : Cut g (take (i + 1) row) cs0 cs' (went + w)

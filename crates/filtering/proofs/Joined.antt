@@ -26,8 +26,8 @@ apart_right l r far i j h k e =
     (get_or-append-add l r i 0 ∙ e ∙ sym (get_or-append-add l r j 0))
 
 -- the place of a cell in a row
-pub at : (cs : List ℕ) (c : ℕ) (m : Contains cs c) → get_or cs m.0 0 ≡ c
-at cs c m = sym (get_or_default cs m.0 c 0 m.1) ∙ m.2
+pub at_place : (cs : List ℕ) (c : ℕ) (m : Contains cs c) → get_or cs m.0 0 ≡ c
+at_place cs c m = sym (get_or_default cs m.0 c 0 m.1) ∙ m.2
 
 -- no other place has it
 lone : (cs : List ℕ) (i k : ℕ) → Apart cs → i < length cs → k < length cs → (k ≡ i → ⊥) → get_or cs k 0 ≡ get_or cs i 0 → ⊥
@@ -47,15 +47,15 @@ but_set cs f c r m far =
   where
     go : (k : ℕ) → k < length cs → (k ≡ m.0) ⊎ (k ≡ m.0 → ⊥) → but f c r (get_or cs k 0) ≡ get_or (set (map f cs) m.0 r) k 0
     go k h (inl e) =
-        but_here f c r (get_or cs k 0) (ap (λ (j : ℕ). get_or cs j 0) e ∙ at cs c m)
+        but_here f c r (get_or cs k 0) (ap (λ (j : ℕ). get_or cs j 0) e ∙ at_place cs c m)
         ∙ sym (ap (λ (j : ℕ). get_or (set (map f cs) m.0 r) j 0) e ∙ get_or-set_same (map f cs) m.0 r 0 (omega (arith, m.1, length-map cs f)))
     go k h (inr n) =
-        but_there f c r (get_or cs k 0) (λ e. lone cs m.0 k far m.1 h n (e ∙ sym (at cs c m)))
+        but_there f c r (get_or cs k 0) (λ e. lone cs m.0 k far m.1 h n (e ∙ sym (at_place cs c m)))
         ∙ sym (get_or-set_other (map f cs) m.0 k r 0 n ∙ get_or-map f cs k 0 0 h)
 
 -- what the cell has there before
 pub was : (cs : List ℕ) (f : ℕ → ℕ) (c : ℕ) (m : Contains cs c) → get_or (map f cs) m.0 0 ≡ f c
-was cs f c m = get_or-map f cs m.0 0 0 m.1 ∙ ap f (at cs c m)
+was cs f c m = get_or-map f cs m.0 0 0 m.1 ∙ ap f (at_place cs c m)
 
 module _ (F : ℕ → ℕ) (q : Rule) (lo hi : ℕ → ℕ) (ends : Ends F q lo hi) (far : Apart (q.left ++ q.right)) (supports : Supports F q lo hi) (ox oy : ℕ → ℕ) (counted : Loaded ox oy (map lo q.left) (map hi q.right)) where
   -- where the left outweighs the right by the counts, no choice meets the rule

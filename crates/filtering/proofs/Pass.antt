@@ -13,7 +13,7 @@ use Rattle.filtering.specs.Bounded.{kept, Bounded}
 use Rattle.filtering.specs.Cuts.{Cut}
 use Rattle.filtering.specs.declared.sides.Side.TheVariants.{Left, Right}
 
-module _ (cs cs1 cs2 : List ℕ) (q : Rule) (b : Bounds) (l u : ℕ) (bounded : Bounded cs q b) (lower : Cut (kept Left b) q.left cs cs1 l) (upper : Cut (kept Right b) q.right cs1 cs2 u) where
+module _ {cs cs1 cs2 : List ℕ} {q : Rule} {b : Bounds} {l u : ℕ} (bounded : Bounded cs q b) (lower : Cut (kept Left b) q.left cs cs1 l) (upper : Cut (kept Right b) q.right cs1 cs2 u) where
   left_is : (c : ℕ) → Contains q.left c → family cs2 c ≡ kept Left b (family cs c)
   left_is c m = upper.other c (λ n. apart_rows q.left q.right c bounded.marks.fit.apart m n) ∙ lower.named c m
 

@@ -29,7 +29,7 @@ use Rattle.filtering.specs.Sides.{lowest, highest, bests}
 use Rattle.filtering.specs.declared.sides.Side.{Side}
 use Rattle.filtering.specs.declared.sides.Side.TheVariants.{Left, Right}
 use Rattle.filtering.proofs.Best.{ends_of}
-use Rattle.filtering.proofs.Joined.{at, none_meets, some_meets, left_kept, right_kept}
+use Rattle.filtering.proofs.Joined.{at_place, none_meets, some_meets, left_kept, right_kept}
 
 -- counts of 48 ranks tell how often any rank occurs
 pub occurs_is : (xs ys : List ℕ) → length xs ≡ 48 → Counted (occurs xs) 48 ys → occurs xs ≡ (λ h. count by_rank h ys)
@@ -44,9 +44,9 @@ below_right n l r b i h = subst (λ (x : ℕ). x < n) (get_or-append-add l r i 0
 
 -- a cell of a row is one of the store's
 pub named_below : (n : ℕ) (row : List ℕ) (c : ℕ) → Below n row → Contains row c → c < n
-named_below n row c b m = subst (λ (x : ℕ). x < n) (at row c m) (b m.0 m.1)
+named_below n row c b m = subst (λ (x : ℕ). x < n) (at_place row c m) (b m.0 m.1)
 
-module _ (holds : ℕ → ℕ → Type 0) (d : ℕ) (cs : List ℕ) (formed : Formed holds d cs) where
+module _ {holds : ℕ → ℕ → Type 0} {d : ℕ} {cs : List ℕ} (formed : Formed holds d cs) where
   -- a cell's set has a rank, and all its ranks are below 48
   pub small : (c : ℕ) → c < length cs → (0 < family cs c) × (family cs c < 2 ^ 48)
   small c l =
@@ -54,7 +54,7 @@ module _ (holds : ℕ → ℕ → Type 0) (d : ℕ) (cs : List ℕ) (formed : Fo
       let e = formed.each c l in
       (e.some, omega (arith, p, e.below))
 
-  module _ (left right lows highs : List ℕ) (fit : Fit (length cs) left right) (ll : length lows ≡ 48) (hl : length highs ≡ 48)
+  module _ {left right : List ℕ} (lows highs : List ℕ) (fit : Fit (length cs) left right) (ll : length lows ≡ 48) (hl : length highs ≡ 48)
       (lc : Counted (occurs lows) 48 (bests Left cs left)) (hc : Counted (occurs highs) 48 (bests Right cs right)) where
     ends : Ends (family cs) (rule left right) (λ c. lowest (family cs c)) (λ c. highest (family cs c))
     ends = ends_of (family cs) (rule left right) (λ x m. small x (named_below (length cs) (left ++ right) x fit.below m))
