@@ -14,6 +14,7 @@ use Rattle.rules.specs.Ends.{Ends, but}
 use Rattle.rules.specs.Rows.{Apart}
 use Rattle.rules.specs.Rules.{Rule, Supported, Meetable}
 use Rattle.rules.specs.Support.{Supports}
+use Rattle.rules.proofs.Laws.{best_decides}
 use Rattle.rules.proofs.Places.{but_here, but_there}
 
 pub apart_left : (l r : List ℕ) → Apart (l ++ r) → Apart l
@@ -57,12 +58,15 @@ but_set cs f c r m far =
 pub was : (cs : List ℕ) (f : ℕ → ℕ) (c : ℕ) (m : Contains cs c) → get_or (map f cs) m.0 0 ≡ f c
 was cs f c m = get_or-map f cs m.0 0 0 m.1 ∙ ap f (at_place cs c m)
 
-module _ (F : ℕ → ℕ) (q : Rule) (lo hi : ℕ → ℕ) (ends : Ends F q lo hi) (far : Apart (q.left ++ q.right)) (supports : Supports F q lo hi) (ox oy : ℕ → ℕ) (counted : Loaded ox oy (map lo q.left) (map hi q.right)) where
+module _ {F : ℕ → ℕ} {q : Rule} {lo hi : ℕ → ℕ} (ends : Ends F q lo hi) (far : Apart (q.left ++ q.right)) {ox oy : ℕ → ℕ} (counted : Loaded ox oy (map lo q.left) (map hi q.right)) where
+  supports : Supports F q lo hi
+  supports = best_decides F q lo hi ends far
+
   -- where the left outweighs the right by the counts, no choice meets the rule
   pub none_meets : Outweighs ox oy → Meetable F q → ⊥
   none_meets w m = w (map lo q.left) (map hi q.right) counted (supports.meets.0 m)
 
-  module _ (b : Bounds) (is : BoundsOf ox oy b) where
+  module _ {b : Bounds} (is : BoundsOf ox oy b) where
     -- else some choice does
     pub some_meets : Meetable F q
     some_meets = supports.meets.1 (is.met (map lo q.left) (map hi q.right) counted)

@@ -6,7 +6,7 @@ use Rattle.std.specs.List.{Contains}
 use mathlib.Core.Path.{fun_ext}
 use Rattle.std.proofs.Math.Pow.{pow_mono}
 use Rattle.std.proofs.lemmas.Bool.{cases_lt}
-use Rattle.std.proofs.lemmas.List.{get_or_past, get_or-append-add}
+use Rattle.std.proofs.lemmas.List.{get_or_past, get_or_append_left, get_or-append-add}
 use Rattle.domains.specs.Sets.{In}
 use Rattle.loads.specs.Counts.{Counted}
 use Rattle.loads.specs.Kinds.{by_rank}
@@ -21,9 +21,7 @@ use Rattle.rules.specs.Families.{family}
 use Rattle.rules.specs.Filtered.{rule, Unfiltered}
 use Rattle.rules.specs.Rows.{Below, Fit}
 use Rattle.rules.specs.Rules.{Supported}
-use Rattle.rules.specs.Support.{Supports}
 use Rattle.rules.specs.declared.faults.FilterFault.TheVariants.{NothingLeft}
-use Rattle.rules.proofs.Laws.{best_decides}
 use Rattle.filtering.specs.Bounded.{Bounded, side_row, kept}
 use Rattle.filtering.specs.Sides.{lowest, highest, bests}
 use Rattle.filtering.specs.declared.sides.Side.{Side}
@@ -38,6 +36,9 @@ occurs_is xs ys l c = fun_ext (λ h. go h (cases_lt h 48))
     go : (h : ℕ) → (h < 48) ⊎ (48 ≤ h) → occurs xs h ≡ count by_rank h ys
     go h (inl m) = c.counts h m
     go h (inr m) = get_or_past xs h 0 (omega arith) ∙ sym (count_past 48 h m ys c.bounded)
+
+pub below_left : (n : ℕ) (l r : List ℕ) → Below n (l ++ r) → Below n l
+below_left n l r b i h = subst (λ (x : ℕ). x < n) (get_or_append_left l r 0 i h) (b i (omega (arith, h, length-append l r)))
 
 pub below_right : (n : ℕ) (l r : List ℕ) → Below n (l ++ r) → Below n r
 below_right n l r b i h = subst (λ (x : ℕ). x < n) (get_or-append-add l r i 0) (b (length l + i) (omega (arith, h, length-append l r)))
@@ -59,20 +60,17 @@ module _ {holds : ℕ → ℕ → Type 0} {d : ℕ} {cs : List ℕ} (formed : Fo
     ends : Ends (family cs) (rule left right) (λ c. lowest (family cs c)) (λ c. highest (family cs c))
     ends = ends_of (family cs) (rule left right) (λ x m. small x (named_below (length cs) (left ++ right) x fit.below m))
 
-    supports : Supports (family cs) (rule left right) (λ c. lowest (family cs c)) (λ c. highest (family cs c))
-    supports = best_decides (family cs) (rule left right) (λ c. lowest (family cs c)) (λ c. highest (family cs c)) ends fit.apart
-
     counted : Loaded (occurs lows) (occurs highs) (bests Left cs left) (bests Right cs right)
     counted = record { left_counted = lc; right_counted = hc }
 
     -- what is decided of the counts is decided of the rule
     pub decided : (b : Option Bounds) → MatchOption b (Outweighs (occurs lows) (occurs highs)) (λ b. BoundsOf (occurs lows) (occurs highs) b)
         → MatchResult (ok_or b NothingLeft) (λ b. Bounded cs (rule left right) b) (λ e. Unfiltered cs (rule left right) e)
-    decided None w = (fit, none_meets (family cs) (rule left right) (λ c. lowest (family cs c)) (λ c. highest (family cs c)) ends fit.apart supports (occurs lows) (occurs highs) counted w)
+    decided None w = (fit, none_meets ends fit.apart counted w)
     decided (Some b) is = record {
       marks = record {
         fit = fit;
-        choice = some_meets (family cs) (rule left right) (λ c. lowest (family cs c)) (λ c. highest (family cs c)) ends fit.apart supports (occurs lows) (occurs highs) counted b is;
+        choice = some_meets ends fit.apart counted is;
         ends = ends;
         marks_are = subst₂ (λ (ox oy : ℕ → ℕ). OnlyMarks ox oy b.marks) (occurs_is lows (bests Left cs left) ll lc) (occurs_is highs (bests Right cs right) hl hc) is.marks_are;
       };
@@ -80,5 +78,5 @@ module _ {holds : ℕ → ℕ → Type 0} {d : ℕ} {cs : List ℕ} (formed : Fo
     }
       where
         each : (side : Side) (c r : ℕ) → Contains (side_row side (rule left right)) c → (In (kept side b (family cs c)) r ↔ Supported (family cs) (rule left right) c r)
-        each Left c r m = left_kept (family cs) (rule left right) (λ c. lowest (family cs c)) (λ c. highest (family cs c)) ends fit.apart supports (occurs lows) (occurs highs) counted b is c r m
-        each Right c r m = right_kept (family cs) (rule left right) (λ c. lowest (family cs c)) (λ c. highest (family cs c)) ends fit.apart supports (occurs lows) (occurs highs) counted b is c r m
+        each Left c r m = left_kept ends fit.apart counted is c r m
+        each Right c r m = right_kept ends fit.apart counted is c r m

@@ -3,8 +3,13 @@ use Rattle.marking.specs.declared.bounds.Bounds.{Bounds}
 use Rattle.rules.specs.Filtered.{rule, Unfiltered}
 use Rattle.rules.specs.declared.faults.FilterFault.{FilterFault}
 use Rattle.filtering.specs.Bounded.{Bounded}
-use Rattle.filtering.proofs.Verdicts.{decided, below_right}
+use Rattle.filtering.proofs.Verdicts.{decided, below_left, below_right}
 use Rattle.filtering.proofs.bounding.rule_bounds.Goals as goal
+
+pub count_bests-lows-requires-clause-below : goal.count_bests-lows-requires-clause-below
+count_bests-lows-requires-clause-below g c =
+    let fit = rw c.size.ensures.0 at c.in_ok-check_rows.ensures in
+    below_left (length (g.S.Store.cells c.args.store.now)) c.args.left.now c.args.right.now fit.below
 
 pub count_bests-highs-requires-clause-below : goal.count_bests-highs-requires-clause-below
 count_bests-highs-requires-clause-below g c =

@@ -1,7 +1,4 @@
-use Rattle.std.proofs.Common.{ap, ◌∙◌}
-use Rattle.filtering.specs.Bounded.{kept}
 use Rattle.filtering.proofs.Cuts.{cell_cut, fewer_left}
-use Rattle.filtering.proofs.Kept.{part_written}
 use Rattle.filtering.proofs.cutting.cut_cell.Goals as goal
 
 pub overflow_sub-result : goal.overflow_sub-result
@@ -14,10 +11,3 @@ returns-clause-outcome g c =
     let read = rw c.in_ok-part.ensures.ok_part at c.read.ensures in
     cell_cut c.args.side c.args.bounds (g.S.Store.cells c.args.store.now) (g.S.Store.cells c.write.new.self) c.args.cell c.in_ok-part.part.mask c.in_ok-kept.kept.mask c.count.result c.count-2.result
     read.1 (rw c.in_ok-kept.ensures.ok_part at c.keep.ensures) c.in_ok-write.ensures.outcome.1 c.count.ensures c.count-2.ensures
-
-pub returns-in_err-write-clause-outcome : goal.returns-in_err-write-clause-outcome
-returns-in_err-write-clause-outcome g c =
-    let m = g.S.Store in
-    let read = rw c.in_ok-part.ensures.ok_part at c.read.ensures in
-    let left = rw c.in_ok-kept.ensures.ok_part at c.keep.ensures in
-    absurd (part_written c.args.side c.args.bounds m.cells m.width m.holds m.stays g.met.S.Store.laws c.args.store.now c.args.cell c.in_ok-kept.kept.mask c.in_err-write.field-0.0 read.0 (left ∙ ap (kept c.args.side c.args.bounds) read.1) c.in_err-write.ensures.outcome.0)

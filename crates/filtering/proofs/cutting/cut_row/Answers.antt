@@ -14,7 +14,7 @@ loop-cell-preserved g c =
     let row = c.args.row.now in
     let inv = c.loop-cell.invariant in
     let one : CellCut (kept c.args.side c.args.bounds) (m.cells c.loop-cell.store) (m.cells c.cut_cell.new.store) (get_or row i 0) c.in_ok-went.field-0 =
-        subst (λ (x : ℕ). CellCut (kept c.args.side c.args.bounds) (m.cells c.loop-cell.store) (m.cells c.cut_cell.new.store) x c.in_ok-went.field-0) c.from.ensures c.in_ok-went.ensures.outcome in
+    subst (λ (x : ℕ). CellCut (kept c.args.side c.args.bounds) (m.cells c.loop-cell.store) (m.cells c.cut_cell.new.store) x c.in_ok-went.field-0) c.from.ensures c.in_ok-went.ensures.outcome in
     record {
       cut = cut_more row i c.loop-cell-test.true c.requires.apart (c.requires.below i c.loop-cell-test.true) inv.cut one;
       width = c.cut_cell.ensures.width ∙ inv.width;

@@ -3,8 +3,11 @@ use Rattle.rules.specs.Rows.{Below}
 use Rattle.filtering.proofs.Cuts.{total_few, sum_fits}
 use Rattle.filtering.proofs.Joined.{apart_left, apart_right}
 use Rattle.filtering.proofs.Pass.{filtered}
-use Rattle.filtering.proofs.Verdicts.{below_right}
+use Rattle.filtering.proofs.Verdicts.{below_left, below_right}
 use Rattle.filtering.proofs.by_marks.ByMarksFilter.filter.Goals as goal
+
+pub cut_row-requires-clause-below : goal.cut_row-requires-clause-below
+cut_row-requires-clause-below g c = below_left (length (g.S.Store.cells c.args.store.now)) c.args.left.now c.args.right.now c.in_ok-bounds.ensures.marks.fit.below
 
 pub cut_row-requires-clause-apart : goal.cut_row-requires-clause-apart
 cut_row-requires-clause-apart g c = apart_left c.args.left.now c.args.right.now c.in_ok-bounds.ensures.marks.fit.apart
