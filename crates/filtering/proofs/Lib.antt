@@ -1,0 +1,7 @@
+pub mod Best
+pub mod Cuts
+pub mod Joined
+pub mod Kept
+pub mod Pass
+pub mod Tally
+pub mod Verdicts
