@@ -98,3 +98,7 @@ only_marks ox oy m p = record { marked = p; alone = only ox oy m p }
 pub alpha_is : (f g : ℕ → ℕ) (k : ℕ) (r : Option ℕ) → ((h : ℕ) → k ≤ h → f h ≡ g h) → Deciding f g k r → AlphaIs f g r
 alpha_is f g k None e p = λ h. ⊎_elim (p h (omega arith)) (e h) (cases_lt h k)
 alpha_is f g k (Some α) e p = (p.1, λ h m. ⊎_elim (p.2 h (omega (arith, m))) (e h) (cases_lt h k))
+
+-- the same of two lists of 48
+pub alpha_found : (left right : List ℕ) (r : Option ℕ) → length left ≡ 48 → length right ≡ 48 → Deciding (occurs left) (occurs right) 48 r → AlphaIs (occurs left) (occurs right) r
+alpha_found left right r e f p = alpha_is (occurs left) (occurs right) 48 r (λ h l. past left right h (omega (arith, e, l)) (omega (arith, f, l))) p

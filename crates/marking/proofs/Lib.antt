@@ -1,5 +1,6 @@
 pub mod Bounding
 pub mod Comparing
+pub mod Existing
 pub mod Finding
 pub mod Order
 pub mod Shifts

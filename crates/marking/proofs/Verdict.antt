@@ -1,5 +1,5 @@
 -- The marks decide: of a change by one, and of a member of a load that is moved.
-use Rattle.std.proofs.Common.{◌≡◌, ℕ, suc, ◌+◌, ◌<◌, ◌≤◌, true, false, not, ◌⊎◌, List, ◌∷◌, ◌++◌, length, get_or, take, drop, set, Some, None, Option, sym, ap, ◌∙◌, subst, subst₂, inl, inr, arith}
+use Rattle.std.proofs.Common.{◌≡◌, ℕ, suc, ◌+◌, ◌<◌, ◌≤◌, true, false, not, ◌⊎◌, List, ◌∷◌, ◌++◌, length, get_or, take, drop, set, Some, None, Option, sym, refl, ap, ◌∙◌, subst, subst₂, inl, inr, arith}
 use lib.ListN.{get_or-eq_default}
 use lib.Seq.{set_split, split_at}
 use Rattle.std.proofs.lemmas.Bool.{cases_eq, cases_lt, cases_order, not-true}
@@ -12,7 +12,7 @@ use Rattle.loads.proofs.FromTop.{rank_lower, lower_rank, count_past}
 use Rattle.loads.proofs.Weights.{count_insert}
 use Rattle.marking.specs.declared.marks.Marks.{Marks}
 use Rattle.marking.specs.declared.counts.Counts.{Counts}
-use Rattle.marking.specs.Marks.{on_left, on_right, AlphaIs, BetaIs, GammaSays, SigmaSays}
+use Rattle.marking.specs.Marks.{occurs, on_left, on_right, AlphaIs, BetaIs, GammaSays, SigmaSays}
 use Rattle.marking.specs.Bounds.{Loaded, IsFloor, FewerAtAlpha}
 use Rattle.marking.proofs.Comparing.{AtMost, one, Shifted, Moved, Alpha, Beta, NoBeta, Gamma, Sigma}
 use Rattle.marking.proofs.Shifts.{at_alpha_spare, at_alpha_no_beta, at_alpha_over_beta, at_alpha_no_gamma, at_alpha_under_beta, at_beta_short, at_beta_sigma, at_beta_no_sigma}
@@ -121,13 +121,17 @@ module _ (ox oy : ℕ → ℕ) (px : (h : ℕ) → 48 ≤ h → ox h ≡ 0) (py 
             under f g t l s n (inl m) = absurd (at_alpha_under_beta ox oy f g t α l s β a x b c m n)
             under f g t l s n (inr m) = m
 
+-- a list of 48 counts nothing from there up
+pub none_past : (counts : List ℕ) → length counts ≡ 48 → (h : ℕ) → 48 ≤ h → occurs counts h ≡ 0
+none_past counts e h l = get_or-eq_default counts 0 {n = h} (omega (arith, e, l))
+
 -- the same of counts in arrays and the marks found
 module _ (counts : Counts) (m : Marks) (α : ℕ) (known : FewerAtAlpha (on_left counts) (on_right counts) m α) where
   none_left : (h : ℕ) → 48 ≤ h → on_left counts h ≡ 0
-  none_left h k = get_or-eq_default counts.left.now 0 {n = h} (omega (arith, counts.left_len, k))
+  none_left = none_past counts.left.now counts.left_len
 
   none_right : (h : ℕ) → 48 ≤ h → on_right counts h ≡ 0
-  none_right h k = get_or-eq_default counts.right.now 0 {n = h} (omega (arith, counts.right_len, k))
+  none_right = none_past counts.right.now counts.right_len
 
   alpha_here : Alpha (on_left counts) (on_right counts) α
   alpha_here = (known.fewer, (subst (AlphaIs (on_left counts) (on_right counts)) known.at known.marked.alpha_is).1)
@@ -158,13 +162,6 @@ module _ (counts : Counts) (m : Marks) (α : ℕ) (known : FewerAtAlpha (on_left
     beta_more : on_right counts β < on_left counts β
     beta_more = beta_there.1
 
-    pub no_gamma : not m.gamma ≡ true → IsFloor (on_left counts) (on_right counts) α 0
-    no_gamma g = go (cases_lt (on_left counts α + 1) (on_right counts α))
-      where
-        go : (on_left counts α + 1 < on_right counts α) ⊎ (on_right counts α ≤ on_left counts α + 1) → IsFloor (on_left counts) (on_right counts) α 0
-        go (inl x) = spare x
-        go (inr x) = floor_no_gamma (on_left counts) (on_right counts) none_left none_right α alpha_here (omega (arith, known.fewer, x)) β beta_there (not_from_Decides m.gamma gamma_there (not-true m.gamma g))
-
     module _ (g : m.gamma ≡ true) (x : on_right counts α ≤ on_left counts α + 1) where
       one_less : on_left counts α + 1 ≡ on_right counts α
       one_less = omega (arith, known.fewer, x)
@@ -185,5 +182,14 @@ module _ (counts : Counts) (m : Marks) (α : ℕ) (known : FewerAtAlpha (on_left
       pub without_sigma : on_left counts β ≤ on_right counts β + 1 → m.sigma ≡ false → IsFloor (on_left counts) (on_right counts) α β
       without_sigma y s = floor_beta (on_left counts) (on_right counts) none_left none_right α alpha_here one_less β beta_there gamma_holds (omega (arith, y, beta_more)) (not_from_Decides m.sigma sigma_there s)
 
+  -- without γ, whether there is a β or not
+  pub no_gamma : not m.gamma ≡ true → IsFloor (on_left counts) (on_right counts) α 0
+  no_gamma g = go m.beta refl (cases_lt (on_left counts α + 1) (on_right counts α))
+    where
+      go : (o : Option ℕ) → m.beta ≡ o → (on_left counts α + 1 < on_right counts α) ⊎ (on_right counts α ≤ on_left counts α + 1) → IsFloor (on_left counts) (on_right counts) α 0
+      go o e (inl x) = spare x
+      go None e (inr x) = no_beta e
+      go (Some β) e (inr x) = floor_no_gamma (on_left counts) (on_right counts) none_left none_right α alpha_here (omega (arith, known.fewer, x)) β (beta_there β e) (not_from_Decides m.gamma (gamma_there β e) (not-true m.gamma g))
+
 -- which floor it is, by the marks
-pub ruleset floors = (no_beta, short, with_sigma, without_sigma)
+pub ruleset floors = (no_beta, no_gamma, spare, short, with_sigma, without_sigma)

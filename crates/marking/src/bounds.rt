@@ -26,11 +26,12 @@ impl Bounds {
         let (Some(alpha), Some(floor)) = (self.marks.alpha, self.floor) else {
             return lowest;
         };
-        if floor <= lowest {
-            lowest.max(alpha)
+        let limit = if floor <= lowest {
+            alpha
         } else {
-            lowest.max(alpha.saturating_sub(1))
-        }
+            alpha.saturating_sub(1)
+        };
+        lowest.max(limit)
     }
 
     // The lowest rank that a member of the right load may be lowered to, where `highest` is its rank.

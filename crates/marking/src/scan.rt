@@ -9,6 +9,7 @@ use loads::weighing::Weight;
 
 impl Counts<'_> {
     // The highest rank whose counts differ.
+    #[tactic(auto, using(crate::proofs::Finding::alpha_found))]
     fn highest_difference(&self) -> Option<usize>
         ensures rank { AlphaIs (on_left self.now) (on_right self.now) result }
         ensures below { IfSome result (λ a. a < 48) }
