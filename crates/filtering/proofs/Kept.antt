@@ -1,11 +1,11 @@
 -- What the bounds leave of a set: a part of it that has a rank.
-use Rattle.std.proofs.Common.{◌≡◌, ℕ, zero, suc, ◌/◌, ◌%◌, ◌^◌, ◌<◌, ◌≤◌, Some, None, Option, arith}
-use Rattle.std.proofs.lemmas.Bool.Decides.{nat_tests}
+use Rattle.std.proofs.Common.{◌≡◌, ℕ, zero, suc, ◌/◌, ◌%◌, ◌^◌, ◌<◌, ◌≤◌, arith}
 use Rattle.std.proofs.lemmas.Nat.Bits.{bit_at-lt}
 use Rattle.domains.specs.Sets.{In, size, size_below}
 use Rattle.domains.proofs.Ranks.{in_upto, in_from, some_in}
 use Rattle.marking.specs.Bounds.{left_most, right_least}
 use Rattle.marking.specs.declared.bounds.Bounds.{Bounds}
+use Rattle.marking.proofs.Bounding.{left_keeps, right_keeps}
 use Rattle.filtering.specs.Bounded.{kept}
 use Rattle.filtering.specs.Sides.{lowest, highest}
 use Rattle.filtering.specs.declared.sides.Side.{Side}
@@ -13,21 +13,11 @@ use Rattle.filtering.specs.declared.sides.Side.TheVariants.{Left, Right}
 use Rattle.filtering.proofs.Best.{lowest_in, highest_in}
 
 -- no bound takes the best rank
-most_over : (α fl : Option ℕ) (a : ℕ) → a ≤ left_most α fl a
-most_over None fl a = omega arith
-most_over (Some α) None a = omega arith
-most_over (Some α) (Some fl) a = omega arith
-
-least_under : (α fl : Option ℕ) (b : ℕ) → right_least α fl b ≤ b
-least_under None fl b = omega arith
-least_under (Some α) None b = omega arith
-least_under (Some α) (Some fl) b = grind (arith, nat_tests)
-
 pub kept_some : (side : Side) (b : Bounds) (m : ℕ) → 0 < m → m < 2 ^ 48 → 0 < kept side b m
 kept_some Left b m p h =
-    some_in (kept Left b m) (lowest m) ((in_upto m (left_most b.marks.alpha b.floor (lowest m)) (lowest m)).1 (lowest_in m p h) (most_over b.marks.alpha b.floor (lowest m)))
+    some_in (kept Left b m) (lowest m) ((in_upto m (left_most b.marks.alpha b.floor (lowest m)) (lowest m)).1 (lowest_in m p h) (left_keeps b.marks.alpha b.floor (lowest m)))
 kept_some Right b m p h =
-    some_in (kept Right b m) (highest m) ((in_from m (right_least b.marks.alpha b.floor (highest m)) (highest m)).1 (highest_in m p h) (least_under b.marks.alpha b.floor (highest m)))
+    some_in (kept Right b m) (highest m) ((in_from m (right_least b.marks.alpha b.floor (highest m)) (highest m)).1 (highest_in m p h) (right_keeps b.marks.alpha b.floor (highest m)))
 
 kept_in : (side : Side) (b : Bounds) (m r : ℕ) → In (kept side b m) r → In m r
 kept_in Left b m r i = ((in_upto m (left_most b.marks.alpha b.floor (lowest m)) r).0 i).0

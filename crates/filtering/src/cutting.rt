@@ -10,7 +10,7 @@ use rules::faults::FilterFault;
 use stores::faults::WriteFault;
 use stores::store::Store;
 
-// Answers how many ranks went. Each of the three misses has its refusal, and none happens.
+// Takes from one cell, and answers how many ranks went. Each of the three misses has its refusal, and none happens.
 #[tactic(auto, using(crate::proofs::Kept::kept_some))]
 fn cut_cell<S: Store>(
     store: &mut S,
