@@ -1,5 +1,5 @@
 // What a filter does to a rule's cells, compared with what the search finds.
-use crate::choice::alone;
+use crate::choice::{WIDTH, alone};
 use crate::defined::defined_marks;
 use crate::search::supported;
 use crate::shape::Shape;
@@ -11,38 +11,24 @@ use rules::faults::FilterFault;
 use rules::filter::Filter;
 use stores::store::Store;
 
-// Lays out four cells and gives each its set; whether the store took them all.
-fn put<S: Store>(store: &mut S, sets: &[u64; 4]) -> bool {
-    if store.lay_out(4, 3).is_err() {
-        return false;
-    }
+// Lays out four cells and gives each its set; none where the store refuses one.
+fn put<S: Store>(store: &mut S, sets: &[u64; 4]) -> Option<()> {
+    store.lay_out(4, WIDTH).ok()?;
     for (cell, &set) in sets.iter().enumerate() {
-        let part = Domain::new(set);
-        if !part.is_some_and(|part| store.write(cell, part).is_ok()) {
-            return false;
-        }
+        store.write(cell, Domain::new(set)?).ok()?;
     }
-    true
-}
-
-fn mask<S: Store>(store: &S, cell: usize) -> u64 {
-    store.read(cell).map_or(0, |part| part.mask())
+    Some(())
 }
 
 fn masks<S: Store>(store: &S) -> [u64; 4] {
-    [
-        mask(store, 0),
-        mask(store, 1),
-        mask(store, 2),
-        mask(store, 3),
-    ]
+    [0, 1, 2, 3].map(|cell| store.read(cell).map_or(0, |part| part.mask()))
 }
 
 // How many ranks the sets had that are not left.
 fn count_gone(sets: &[u64; 4], left: &[u64; 4]) -> usize {
     let mut gone = 0_usize;
     for (set, left) in sets.iter().zip(left) {
-        let ranks = (0..3).filter(|&rank| *set & !*left & alone(rank) != 0);
+        let ranks = (0..WIDTH).filter(|&rank| *set & !*left & alone(rank) != 0);
         gone = gone.saturating_add(ranks.count());
     }
     gone
@@ -63,25 +49,14 @@ fn leaves<S: Store>(store: &mut S, shape: Shape<'_>, went: usize, kept: &[u64; 4
 
 // Counts a rule; none where the filter, the marks or the store do otherwise than the search.
 pub fn compare<S: Store>(store: &mut S, shape: Shape<'_>, sets: &[u64; 4]) -> Option<Tally> {
-    if !put(store, sets) {
-        return None;
-    }
+    put(store, sets)?;
     let Some(kept) = supported(shape, sets) else {
-        let tally = Tally {
-            rules: 1,
-            unmet: 1,
-            went: 0,
-        };
-        return is_refused(store, shape, sets).then_some(tally);
+        return is_refused(store, shape, sets).then_some(Tally::unmet());
     };
+    let wanted = defined_marks(shape, sets);
     let went = count_gone(sets, &kept);
-    let found = marks(store, shape.left, shape.right);
-    let same = found == Ok(defined_marks(shape, sets))
+    let same = marks(store, shape.left, shape.right) == Ok(wanted)
         && leaves(store, shape, went, &kept)
         && leaves(store, shape, 0, &kept);
-    same.then_some(Tally {
-        rules: 1,
-        unmet: 0,
-        went,
-    })
+    same.then_some(Tally::met(went))
 }

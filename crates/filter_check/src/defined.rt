@@ -60,14 +60,14 @@ impl Choice<'_> {
 
 pub fn defined_marks(shape: Shape<'_>, sets: &[u64; 4]) -> Marks {
     let best = best(shape, sets);
-    let mut marks = Marks::default();
-    marks.alpha = best.difference(WIDTH);
-    if let Some(alpha) = marks.alpha {
-        marks.beta = best.excess(alpha);
-        if let Some(beta) = marks.beta {
-            marks.gamma = best.agrees(beta, alpha);
-            marks.sigma = best.leads(beta);
-        }
+    let alpha = best.difference(WIDTH);
+    let beta = alpha.and_then(|alpha| best.excess(alpha));
+    Marks {
+        alpha,
+        beta,
+        gamma: alpha
+            .zip(beta)
+            .is_some_and(|(high, low)| best.agrees(low, high)),
+        sigma: beta.is_some_and(|low| best.leads(low)),
     }
-    marks
 }

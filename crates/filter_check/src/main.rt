@@ -1,12 +1,12 @@
 // Goes through every rule of small shape on a scale of three ranks, and compares filtering by marks with a search over all choices.
 #![tactic(auto)]
 
-pub mod choice;
-pub mod comparing;
-pub mod defined;
-pub mod search;
-pub mod shape;
-pub mod tally;
+mod choice;
+mod comparing;
+mod defined;
+mod search;
+mod shape;
+mod tally;
 
 use comparing::compare;
 use shape::{Shape, sets};
@@ -16,15 +16,17 @@ use stores::bounds_store::BoundsStore;
 use stores::store::Store;
 use tally::Tally;
 
-// The set of ranks 0 and 2, the only one of three ranks with a gap.
-const GAPPED: u64 = 5;
+// The sets of three ranks, and those without a gap.
+const ALL: [u64; 7] = [1, 2, 3, 4, 5, 6, 7];
 
-// Compares all rules of a shape, or all without a gap in a set. At the first difference, answers the number of the rule.
-fn compare_all<S: Store>(store: &mut S, shape: Shape<'_>, gaps: bool) -> Result<Tally, u64> {
+const GAPLESS: [u64; 6] = [1, 2, 3, 4, 6, 7];
+
+// Compares the rules of a shape whose sets are all held. At the first difference, answers the number of the rule.
+fn compare_all<S: Store>(store: &mut S, shape: Shape<'_>, held: &[u64]) -> Result<Tally, u64> {
     let mut tally = Tally::default();
     for rule in 0..shape.rules {
         let sets = sets(rule);
-        if gaps || !sets.contains(&GAPPED) {
+        if sets.iter().all(|set| held.contains(set)) {
             tally = tally.and(compare(store, shape, &sets).ok_or(rule)?);
         }
     }
@@ -45,7 +47,7 @@ fn tell_tally(rt: &HostRuntime, tally: Tally) -> io::Result<()> {
 }
 
 // Answers whether there was no difference.
-fn go_through<S: Store>(rt: &HostRuntime, store: &mut S, gaps: bool) -> io::Result<bool> {
+fn go_through<S: Store>(rt: &HostRuntime, store: &mut S, held: &[u64]) -> io::Result<bool> {
     let shapes = [
         Shape::new(&[0], &[1], 49),
         Shape::new(&[0], &[1, 2], 343),
@@ -55,7 +57,7 @@ fn go_through<S: Store>(rt: &HostRuntime, store: &mut S, gaps: bool) -> io::Resu
     ];
     let mut tally = Tally::default();
     for shape in shapes {
-        match compare_all(store, shape, gaps) {
+        match compare_all(store, shape, held) {
             Ok(more) => tally = tally.and(more),
             Err(rule) => {
                 tell_difference(rt, shape, rule)?;
@@ -69,10 +71,10 @@ fn go_through<S: Store>(rt: &HostRuntime, store: &mut S, gaps: bool) -> io::Resu
 
 fn main(rt: HostRuntime) -> io::Result<()> {
     println!(rt; "A store of bits, every set")?;
-    if !go_through(&rt, &mut BitStore::new(), true)? {
+    if !go_through(&rt, &mut BitStore::new(), &ALL)? {
         return Ok(());
     }
     println!(rt; "A store of bounds, every set without a gap")?;
-    go_through(&rt, &mut BoundsStore::new(), false)?;
+    go_through(&rt, &mut BoundsStore::new(), &GAPLESS)?;
     Ok(())
 }

@@ -1,4 +1,4 @@
-// What was counted over rules that were found alike.
+// What is counted over rules of which filter and search say the same.
 #[derive(Clone, Copy, Default)]
 pub struct Tally {
     pub rules: usize,
@@ -9,6 +9,24 @@ pub struct Tally {
 }
 
 impl Tally {
+    // One rule that no choice meets.
+    pub fn unmet() -> Tally {
+        Tally {
+            rules: 1,
+            unmet: 1,
+            went: 0,
+        }
+    }
+
+    // One rule that a choice meets.
+    pub fn met(went: usize) -> Tally {
+        Tally {
+            rules: 1,
+            unmet: 0,
+            went,
+        }
+    }
+
     // No sum comes near the end of its type.
     pub fn and(self, other: Tally) -> Tally {
         Tally {
