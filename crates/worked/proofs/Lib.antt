@@ -1,1 +1,4 @@
+pub mod Filters
+pub mod Marks
 pub mod Shown
+pub mod Tests

@@ -12,5 +12,5 @@ pub fn worked_rows() -> usize
     ensures rows { result ≡ length table }
     ensures hold { AllByRecursion Holds table }
 {
-    4
+    13
 }
