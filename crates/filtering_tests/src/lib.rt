@@ -18,14 +18,14 @@ mod tests {
 
     // Lays the store out with a cell for each mask, and gives each its set.
     fn put<S: Store>(store: &mut S, d: usize, masks: &[u64]) -> Result<(), Fail> {
-        if store.lay_out(masks.len(), d).is_err() {
-            return Err(Fail::new("not laid out"));
-        }
+        store
+            .lay_out(masks.len(), d)
+            .map_err(|_| Fail::new("not laid out"))?;
         for (cell, &mask) in masks.iter().enumerate() {
             let part = Domain::new(mask).ok_or_else(|| Fail::new("no set"))?;
-            if store.write(cell, part).is_err() {
-                return Err(Fail::new("not written"));
-            }
+            store
+                .write(cell, part)
+                .map_err(|_| Fail::new("not written"))?;
         }
         Ok(())
     }
@@ -137,7 +137,7 @@ mod tests {
         Some(u8::from(fault))
     }
 
-    // Each rule but the last also has the faults of those below it.
+    // The first fault that applies is told: rules in the upper lines have those of lower lines too.
     #[test]
     fn refusals_in_order(rt: HostRuntime) -> Result<(), Fail> {
         let mut store = BitStore::new();
