@@ -1,11 +1,18 @@
--- A test of the marks of two counts that agree from rank 48 on.
-use Rattle.std.proofs.Common.{◌≡◌, ℕ, ◌<◌, ◌≤◌, Bool, true, false, not, Some, None, Option, refl, inl, inr}
+-- Tests of the marks of two counts that agree from rank 48 on, and of a rule.
+use Rattle.std.proofs.Common.{◌≡◌, ℕ, ◌<◌, ◌≤◌, Bool, true, false, not, Some, None, Option, List, map, sym, ◌∙◌, refl, inl, inr}
 use Rattle.std.specs.Prelude.{◌==◌, ◌&&◌, nat_le, nat_lt, Decides}
 use Rattle.std.proofs.lemmas.Bool.{false≢true, and_parts, cases_lt}
 use Rattle.std.proofs.lemmas.Bool.Decides.{Decides-eqb, Decides-ltb, Decides-and, Decides-not, Decides-like}
 use Rattle.marking.specs.Marks.{AlphaIs, BetaIs, Between, GammaSays, SigmaSays, Marked}
 use Rattle.marking.specs.declared.marks.Marks.{Marks}
-use Rattle.worked.proofs.Tests.{every, every_decides, some, some_decides, when, when_decides, alike, alike_decides, le_decides}
+use Rattle.filtering.specs.Bounded.{MarksOf}
+use Rattle.loads.specs.Kinds.{by_rank}
+use Rattle.loads.specs.Loads.{count}
+use Rattle.loads.proofs.FromTop.{count_past}
+use Rattle.marking.proofs.Finding.{only_marks}
+use Rattle.rules.specs.Filtered.{rule}
+use Rattle.worked.proofs.Filters.{lo, hi, ready, meets, fit, ends, meets_decides}
+use Rattle.worked.proofs.Tests.{ranks, ranks_only, every, every_decides, some, some_decides, when, when_decides, alike, alike_decides, le_decides}
 
 no_decides : {P : Type 0} → (P → ⊥) → Decides false P
 no_decides n = (λ e. absurd (false≢true e), λ p. absurd (n p))
@@ -39,7 +46,7 @@ module _ (ox oy : ℕ → ℕ) where
   sigma_test None = false
   sigma_test (Some β) = some (λ s. nat_lt (oy s) (ox s) && between s β) β
 
-  abbrev pub marks_test : Marks → Bool
+  abbrev marks_test : Marks → Bool
   marks_test m = (alpha_test m.alpha && beta_test m.alpha m.beta) && (alike m.gamma (gamma_test m.alpha m.beta) && alike m.sigma (sigma_test m.beta))
 
   alpha_only : ((h : ℕ) → 48 ≤ h → ox h ≡ oy h) → (α : Option ℕ) → alpha_test α ≡ true → AlphaIs ox oy α
@@ -81,7 +88,7 @@ module _ (ox oy : ℕ → ℕ) where
   itself : (b : Bool) → Decides b (b ≡ true)
   itself b = (λ e. e, λ e. e)
 
-  pub marks_only : ((h : ℕ) → 48 ≤ h → ox h ≡ oy h) → (m : Marks) → marks_test m ≡ true → Marked ox oy m
+  marks_only : ((h : ℕ) → 48 ≤ h → ox h ≡ oy h) → (m : Marks) → marks_test m ≡ true → Marked ox oy m
   marks_only past m e =
       let p = and_parts (alpha_test m.alpha && beta_test m.alpha m.beta) (alike m.gamma (gamma_test m.alpha m.beta) && alike m.sigma (sigma_test m.beta)) e in
       let q = and_parts (alpha_test m.alpha) (beta_test m.alpha m.beta) p.0 in
@@ -92,3 +99,29 @@ module _ (ox oy : ℕ → ℕ) where
         gamma_is = (alike_decides m.gamma (gamma_test m.alpha m.beta) (itself m.gamma) (gamma_decides m.alpha m.beta)).0 r.0;
         sigma_is = (alike_decides m.sigma (sigma_test m.beta) (itself m.sigma) (sigma_decides m.beta)).0 r.1;
       }
+
+-- how often a rank is the lowest of a cell of the row, and the highest
+abbrev lows : List ℕ → List ℕ → ℕ → ℕ
+lows cs row h = count by_rank h (map (lo cs) row)
+
+abbrev highs : List ℕ → List ℕ → ℕ → ℕ
+highs cs row h = count by_rank h (map (hi cs) row)
+
+-- the marks of a rule
+abbrev pub marks : List ℕ → List ℕ → List ℕ → Marks → Bool
+marks cs left right m = meets cs left right && ((ranks (map (lo cs) left) && ranks (map (hi cs) right)) && marks_test (lows cs left) (highs cs right) m)
+
+pub marked_only : (cs left right : List ℕ) → ready cs left right ≡ true → (m : Marks) → marks cs left right m ≡ true → MarksOf cs (rule left right) m
+marked_only cs left right is_ready m e =
+    let p : (meets cs left right ≡ true) × (((ranks (map (lo cs) left) && ranks (map (hi cs) right)) && marks_test (lows cs left) (highs cs right) m) ≡ true) = and_parts _ _ e in
+    let q : ((ranks (map (lo cs) left) && ranks (map (hi cs) right)) ≡ true) × (marks_test (lows cs left) (highs cs right) m ≡ true) = and_parts _ _ p.1 in
+    let r : (ranks (map (lo cs) left) ≡ true) × (ranks (map (hi cs) right) ≡ true) = and_parts _ _ q.0 in
+    record {
+      fit = fit cs left right is_ready;
+      choice = (meets_decides cs left right is_ready).0 p.0;
+      ends = ends cs left right is_ready;
+      marks_are = only_marks (lows cs left) (highs cs right) m
+          (marks_only (lows cs left) (highs cs right)
+          (λ h l. count_past 48 h l (map (lo cs) left) (ranks_only (map (lo cs) left) r.0) ∙ sym (count_past 48 h l (map (hi cs) right) (ranks_only (map (hi cs) right) r.1)))
+          m q.1);
+    }

@@ -14,7 +14,8 @@ use Rattle.loads.proofs.Agreement.{weighed_holds}
 use Rattle.loads.proofs.FromTop.{rank_order}
 use Rattle.worked.specs.Rows.{Row, weighing, marked, filtered, unmet, Holds}
 use Rattle.worked.specs.Table.{table}
-use Rattle.worked.proofs.Filters.{ready, meets, filters, marks, unmet_only, filtered_only, marked_only}
+use Rattle.worked.proofs.Filters.{ready, meets, filters, unmet_only, filtered_only}
+use Rattle.worked.proofs.Marks.{marks, marked_only}
 use Rattle.worked.proofs.Tests.{every, some}
 
 abbrev weighs : Weight → Weight → Bool
