@@ -128,6 +128,21 @@ mod tests {
         Ok(())
     }
 
+    #[test]
+    fn top_rank(rt: HostRuntime) -> Result<(), Fail> {
+        let mut store = BitStore::new();
+        put(&mut store, 48, &[1 << 47, 1 << 46])?;
+        let wanted = Marks {
+            alpha: Some(47),
+            beta: Some(46),
+            gamma: true,
+            sigma: false,
+        };
+        assert_eq!(rt; marks(&store, &[1], &[0]), Ok(wanted));
+        assert_eq!(rt; refusal(&mut store, &[0], &[1]), Some(9));
+        Ok(())
+    }
+
     // The number of the refusal, where filter and marks refuse alike.
     fn refusal<S: Store>(store: &mut S, left: &[u8], right: &[u8]) -> Option<u8> {
         let fault = marks(store, left, right).err()?;
