@@ -4,4 +4,5 @@ pub mod Joined
 pub mod Kept
 pub mod Pass
 pub mod Tally
+pub mod Twice
 pub mod Verdicts

@@ -1,3 +1,4 @@
+pub mod Again
 pub mod Bounded
 pub mod Cuts
 pub mod Sides

@@ -1,6 +1,7 @@
 // Filtering by one rule, decided by the marks of two counts.
 #![tactic(auto)]
 
+pub mod again;
 pub mod bounding;
 pub mod by_marks;
 pub mod counting;
