@@ -1,13 +1,14 @@
 -- The open trials, the newest first, and what opening one and ending one do to them.
-use Rattle.std.specs.Prelude.{◌≡◌, ℕ, ◌+◌, ◌<◌, List, ◌∷◌, ◌++◌, length, ◌≢◌}
+use Rattle.std.specs.Prelude.{◌≡◌, ℕ, ◌+◌, ◌<◌, List, ◌∷◌, ◌++◌, length, take, ◌≢◌}
 use Rattle.std.specs.List.{AllByRecursion}
 use Rattle.trials.specs.Saved.{Trial, trials_from}
 use Rattle.trials.specs.declared.table.TrialTable.{TrialTable}
 use Rattle.trials.specs.declared.faults.TrialFault.{TrialFault}
 use Rattle.trials.specs.declared.faults.TrialFault.TheVariants.{TooManyOpen, AllGranted, NotOpen}
 
+-- what is saved for them fills the first places
 abbrev pub trials_of : TrialTable → List Trial
-trials_of t = trials_from t.saved.items
+trials_of t = trials_from (take t.count t.saved)
 
 -- no trial has the number t
 abbrev pub NotAmong : ℕ → List Trial → Type 0

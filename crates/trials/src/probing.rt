@@ -1,7 +1,7 @@
 // Code over any store that writes, run on a store with trials between an open and its undo.
 ghost use Rattle.std.specs.Prelude.{◌≡◌, ◌+◌, MatchBool, MatchResult};
 ghost use Rattle.trials.specs.Trials.{CannotOpen};
-ghost use Rattle.trials.specs.TrialStores.{open_trials};
+ghost use Rattle.trials.specs.TrialStores.{open_trials, IsSound};
 ghost use Rattle.trials.specs.Caps.{CanCap, CannotCap, Capped};
 ghost use Rattle.trials.specs.Rehearsals.{Back};
 
@@ -27,8 +27,9 @@ pub fn probe<S: Store>(
     cell: usize,
     rank: usize,
 ) -> Result<bool, TrialFault>
-    ensures outcome { MatchResult result (λ some. MatchBool some (CanCap (S.cells store.old.below) cell rank) (CannotCap (S.cells store.old.below) cell rank) × (store.new.table.granted ≡ store.old.table.granted + 1)) (λ e. CannotOpen (open_trials store.old) store.old.table.granted e × (store.new ≡ store.old)) }
-    ensures back { Back store.old store.new }
+    ensures outcome { MatchResult result (λ some. MatchBool some (CanCap (S.cells store.old.below) cell rank) (CannotCap (S.cells store.old.below) cell rank) × (store.new.table.granted ≡ store.old.table.granted + 1)) (λ e. CannotOpen (open_trials S.Store store.old) store.old.table.granted e × (store.new ≡ store.old)) }
+    ensures back { Back S.Store store.old store.new }
+    ensures sound { IsSound S.Store store.old → IsSound S.Store store.new }
 {
     let number = store.open()?;
     let some = cap(store, cell, rank);

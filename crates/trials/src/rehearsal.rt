@@ -1,7 +1,7 @@
 // A rehearsal: calls made in a trial that is then undone. Whatever they were, the cells are again those at the opening.
 ghost use Rattle.std.specs.Prelude.{◌≡◌, length, IfOk, MatchResult, OnOk};
 ghost use Rattle.trials.specs.Trials.{CannotOpen};
-ghost use Rattle.trials.specs.TrialStores.{open_trials, Undone};
+ghost use Rattle.trials.specs.TrialStores.{open_trials, IsSound, Undone};
 ghost use Rattle.trials.specs.declared.trial_store.TrialStore.{TrialStore};
 ghost use Rattle.trials.specs.Rehearsals.{Answered, Step, Ran, Tried, Rehearsed, NotRehearsed, Back};
 
@@ -29,7 +29,8 @@ pub enum CallAnswer {
 
 // Makes a call, and answers as the store does.
 pub fn answer<S: Store>(store: &mut TrialStore<S>, call: TrialCall) -> Result<CallAnswer, CallFault>
-    ensures { Answered call store.old store.new result }
+    ensures answered { Answered S.Store call store.old store.new result }
+    ensures sound { IsSound S.Store store.old → IsSound S.Store store.new }
 {
     match call {
         TrialCall::Write { cell, part } => {
@@ -53,14 +54,16 @@ pub fn answer<S: Store>(store: &mut TrialStore<S>, call: TrialCall) -> Result<Ca
 
 // Makes a call, whatever it answers.
 pub fn carry_out<S: Store>(store: &mut TrialStore<S>, call: TrialCall)
-    ensures { Step call store.old store.new }
+    ensures step { Step S.Store call store.old store.new }
+    ensures sound { IsSound S.Store store.old → IsSound S.Store store.new }
 {
     let _ = answer(store, call);
 }
 
 // Makes the calls, one after another.
 fn carry_out_all<S: Store>(store: &mut TrialStore<S>, calls: &[TrialCall])
-    ensures { Ran calls.now store.old store.new }
+    ensures ran { Ran S.Store calls.now store.old store.new }
+    ensures sound { IsSound S.Store store.old → IsSound S.Store store.new }
 {
     for call in calls {
         carry_out(store, *call);
@@ -69,8 +72,9 @@ fn carry_out_all<S: Store>(store: &mut TrialStore<S>, calls: &[TrialCall])
 
 // Opens a trial, makes the calls, and answers the trial's number. Whatever the calls were, to undo that number takes the store back.
 fn try_calls<S: Store>(store: &mut TrialStore<S>, calls: &[TrialCall]) -> Result<u32, TrialFault>
-    ensures outcome { MatchResult result (λ number. Tried calls.now number store.old store.new) (λ e. CannotOpen (open_trials store.old) store.old.table.granted e × (store.new ≡ store.old)) }
-    ensures back { IfOk result (λ number. (t : TrialStore _ _) → Undone number store.new t → Back store.old t) }
+    ensures outcome { MatchResult result (λ number. Tried S.Store calls.now number store.old store.new) (λ e. CannotOpen (open_trials S.Store store.old) store.old.table.granted e × (store.new ≡ store.old)) }
+    ensures back { IfOk result (λ number. (t : TrialStore _) → Undone S.Store number store.new t → Back S.Store store.old t) }
+    ensures sound { IsSound S.Store store.old → IsSound S.Store store.new }
 {
     let number = store.open()?;
     carry_out_all(store, calls);
@@ -83,8 +87,9 @@ pub fn rehearse<S: Store>(
     store: &mut TrialStore<S>,
     calls: &[TrialCall],
 ) -> Result<usize, TrialFault>
-    ensures outcome { MatchResult result (λ left. Rehearsed calls.now store.old store.new × (left ≡ length (open_trials store.new))) (λ e. NotRehearsed calls.now store.old store.new e) }
-    ensures back { OnOk result (Back store.old store.new) }
+    ensures outcome { MatchResult result (λ left. Rehearsed S.Store calls.now store.old store.new × (left ≡ length (open_trials S.Store store.new))) (λ e. NotRehearsed S.Store calls.now store.old store.new e) }
+    ensures back { OnOk result (Back S.Store store.old store.new) }
+    ensures sound { IsSound S.Store store.old → IsSound S.Store store.new }
 {
     let trial = try_calls(store, calls)?;
     store.undo(trial)?;

@@ -1,11 +1,7 @@
 use Rattle.std.proofs.Common.{refl}
-use Rattle.trials.proofs.Layers.{same_store, open_outcome, opened_sound, open_apart}
+use Rattle.trials.proofs.Layers.{same_store, open_outcome, open_apart}
+use Rattle.trials.proofs.Soundness.{open_sound}
 use Rattle.trials.proofs.trial_store.TrialStore.begin.Goals as goal
-
-pub invariant_of-self : goal.invariant_of-self
-invariant_of-self g c =
-    let s = c.args.self.now in
-    record { sound = opened_sound g.S.Store s.below s.table c.open.new.self c.args.masks c.requires.1 c.open.result c.open.ensures s.sound }
 
 pub returns : goal.returns
 returns g c =
@@ -14,5 +10,6 @@ returns g c =
     let u = c.open.new.self in
     record {
       outcome = open_outcome m s.below s.table u c.args.masks c.requires.0 _ (λ q. same_store _ s refl q) c.open.result c.open.ensures;
+      sound = open_sound m s.below s.table u c.args.masks c.requires.1 c.open.result c.open.ensures;
       apart = open_apart m s.below s.table u c.args.masks c.requires.0 c.open.result c.open.ensures;
     }
