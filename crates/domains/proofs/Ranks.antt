@@ -1,6 +1,6 @@
 -- The laws of `In`, all of them.
-use Rattle.std.proofs.Common.{◌≡◌, ℕ, zero, suc, refl, pow-suc, ◌+◌, ◌-◌, ◌/◌, ◌%◌, ◌^◌, ◌<◌, ◌≤◌, ◌⊎◌, sym, ap, ◌∙◌, subst, inl, inr, mod-lt, div-add-mod', div-mul-le_self, add-one, one-add, arith, pow_pos, pow_mono, shr-shr, shr_lt}
-use native.Mathlib.Nat.{div-eq_of_lt-le}
+use Rattle.std.proofs.Common.{◌≡◌, ℕ, zero, suc, refl, pow-suc, ◌+◌, ◌-◌, ◌*◌, ◌/◌, ◌%◌, ◌^◌, ◌<◌, ◌≤◌, ◌⊎◌, sym, ap, ◌∙◌, subst, ⊎_elim, inl, inr, mod-lt, suc-mul, zero-mul, div-add-mod', div-mul-le_self, add-one, one-add, arith, pow_pos, pow_mono, shr-shr, shr_lt}
+use native.Mathlib.Nat.{div-eq_of_lt, div-eq_of_lt-le}
 use lib.Bits.{bit_and}
 use lib.Count.{ones, ones_step, ones-le, count_trailing_zeros, under}
 use lib.Pow.{ones_lt}
@@ -16,7 +16,7 @@ pub in_below : (w m k : ℕ) → m < 2 ^ w → In m k → k < w
 in_below w m k h i = elim (cases_lt k w) [ inl l ↦ l | inr l ↦ absurd (none_above w m k h l i) ]
 
 -- of the half of a number
-half_div : (m r : ℕ) → m / 2 / 2 ^ r ≡ m / 2 ^ suc r
+pub half_div : (m r : ℕ) → m / 2 / 2 ^ r ≡ m / 2 ^ suc r
 half_div m r = shr-shr m 1 r ∙ ap (λ k. m / 2 ^ k) (one-add r)
 
 pub in_half : (m r : ℕ) → In (m / 2) r → In m (suc r)
@@ -94,6 +94,33 @@ same_set w m n h l f = same_from_bits_below w m n h l (λ k _. same (m / 2 ^ k %
   where
     same : (a b : ℕ) → a < 2 → b < 2 → (a ≡ 1 → b ≡ 1) → (b ≡ 1 → a ≡ 1) → a ≡ b
     same a b p q f g = grind arith
+
+-- a mask shifted past a width is 0 exactly where all its ranks are below the width
+pub past_scale : (m d : ℕ) → 0 < m / 2 ^ d → 2 ^ d ≤ m
+past_scale m d h = ⊎_elim (λ l. absurd (omega (arith, h, div-eq_of_lt l))) (λ l. l) (cases_lt m (2 ^ d))
+
+pub below_scale : (m d : ℕ) → m / 2 ^ d ≤ 0 → m < 2 ^ d
+below_scale m d h =
+    let z : m / 2 ^ d ≡ 0 = omega arith in
+    omega (arith, div-add-mod' m (2 ^ d), ap (λ x. x * 2 ^ d) z ∙ zero-mul (2 ^ d), mod-lt m (pow_pos d))
+
+-- a set with a rank from d on is not below 2 ^ d, and one without is
+pub rank_past : (m d r : ℕ) → In m r → d ≤ r → 2 ^ d ≤ m
+rank_past m d r i l = ⊎_elim (λ h. absurd (none_above d m r h l i)) (λ h. h) (cases_lt m (2 ^ d))
+
+pub ranks_below : (m d : ℕ) → m < 2 ^ 48 → ((k : ℕ) → d ≤ k → In m k → ⊥) → m < 2 ^ d
+ranks_below m d h none = below_scale m d (low (m / 2 ^ d) refl)
+  where
+    empty : from m d ≡ 0
+    empty =
+        same_set 48 (from m d) 0 (omega (arith, div-mul-le_self m (2 ^ d))) (omega arith)
+        (λ k. (λ i. absurd (none k ((in_from m d k).0 i).1 ((in_from m d k).0 i).0), λ i. absurd (none_in_zero k i)))
+
+    low : (q : ℕ) → m / 2 ^ d ≡ q → m / 2 ^ d ≤ 0
+    low zero e = omega (arith, e)
+    low (suc q) e =
+        let z : suc q * 2 ^ d ≡ 0 = ap (λ x. x * 2 ^ d) (sym e) ∙ empty in
+        absurd (omega (arith, z, suc-mul q (2 ^ d), pow_pos d))
 
 -- all the ranks below j
 pub in_ones : (j k : ℕ) → (In (2 ^ j - 1) k → k < j) × (k < j → In (2 ^ j - 1) k)

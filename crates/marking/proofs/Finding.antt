@@ -77,7 +77,7 @@ module _ (ox oy : ℕ → ℕ) where
       go (inr (inl l)) = absurd (omega (arith, p.2 c l q.0, q.1))
       go (inr (inr l)) = absurd (omega (arith, q.2 b l p.0, p.1))
 
-only : (ox oy : ℕ → ℕ) (m : Marks) → Marked ox oy m → (n : Marks) → Marked ox oy n → n ≡ m
+pub only : (ox oy : ℕ → ℕ) (m : Marks) → Marked ox oy m → (n : Marks) → Marked ox oy n → n ≡ m
 only ox oy m p n q =
     let a : n.alpha ≡ m.alpha = alpha_same ox oy n.alpha m.alpha q.alpha_is p.alpha_is in
     let b : n.beta ≡ m.beta = beta_same ox oy m.alpha n.beta m.beta (subst (λ (o : Option ℕ). BetaIs ox oy o n.beta) a q.beta_is) p.beta_is in

@@ -159,7 +159,7 @@ module _ (counts : Counts) (m : Marks) (α : ℕ) (known : FewerAtAlpha (on_left
     sigma_there : IsTrue m.sigma ↔ Sigma (on_left counts) (on_right counts) β
     sigma_there = subst (λ (o : Option ℕ). IsTrue m.sigma ↔ SigmaSays (on_left counts) (on_right counts) o) e known.marked.sigma_is
 
-    beta_more : on_right counts β < on_left counts β
+    pub beta_more : on_right counts β < on_left counts β
     beta_more = beta_there.1
 
     module _ (g : m.gamma ≡ true) (x : on_right counts α ≤ on_left counts α + 1) where

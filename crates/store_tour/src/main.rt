@@ -2,15 +2,38 @@
 #![tactic(auto)]
 
 use domains::domain::Domain;
-use std::io;
+use std::{fmt, io};
 use stores::bit_store::BitStore;
 use stores::bounds_store::BoundsStore;
 use stores::store::Store;
 use trials::trial_store::TrialStore;
 
-// What a call answered: in its own words where it was accepted, and else the number of the refusal.
+// A call, in words.
+#[derive(Clone, Copy)]
+enum Call {
+    LayOut { cells: usize, width: usize },
+    Write { cell: usize, mask: u64 },
+    Open,
+    Undo { trial: u32 },
+    Keep { trial: u32 },
+}
+
+impl fmt::Display for Call {
+    fn fmt<W: fmt::Write>(&self, f: &mut fmt::Formatter<W>) -> fmt::Result {
+        match *self {
+            Call::LayOut { cells, width } => write!(f, "lay out {cells} cells, {width} ranks"),
+            Call::Write { cell, mask } => write!(f, "write {mask} to cell {cell}"),
+            Call::Open => f.write_str("open"),
+            Call::Undo { trial } => write!(f, "undo trial {trial}"),
+            Call::Keep { trial } => write!(f, "keep trial {trial}"),
+        }
+    }
+}
+
+// What a call answered, on one line with it: in its own words where it was accepted, and else the number of the refusal.
 fn tell<T, E: Into<u8>, F: FnOnce(T) -> io::Result<()>>(
     rt: &HostRuntime,
+    call: Call,
     answer: Result<T, E>,
     accepted: F,
 ) -> io::Result<()>
@@ -20,38 +43,69 @@ fn tell<T, E: Into<u8>, F: FnOnce(T) -> io::Result<()>>(
         Ok(value) => accepted(value),
         Err(fault) => {
             let number: u8 = fault.into();
-            println!(rt; "refused, {number}")
+            println!(rt; "{call}: refused, {number}")
         }
     }
 }
 
-fn lay_out<S: Store>(rt: &HostRuntime, store: &mut S, n: usize, d: usize) -> io::Result<()> {
-    print!(rt; "lay out {n} cells, {d} ranks: ")?;
-    tell(rt, store.lay_out(n, d), |()| println!(rt; "done"))
+fn lay_out<S: Store>(
+    rt: &HostRuntime,
+    store: &mut S,
+    cells: usize,
+    width: usize,
+) -> io::Result<()> {
+    let call = Call::LayOut { cells, width };
+    tell(
+        rt,
+        call,
+        store.lay_out(cells, width),
+        |()| println!(rt; "{call}: done"),
+    )
 }
 
 fn write<S: Store>(rt: &HostRuntime, store: &mut S, cell: usize, mask: u64) -> io::Result<()> {
     let Some(part) = Domain::new(mask) else {
         return println!(rt; "{mask} is no set");
     };
-    print!(rt; "write {mask} to cell {cell}: ")?;
-    tell(rt, store.write(cell, part), |()| println!(rt; "done"))
+    let call = Call::Write { cell, mask };
+    tell(
+        rt,
+        call,
+        store.write(cell, part),
+        |()| println!(rt; "{call}: done"),
+    )
 }
 
 fn open<S: Store>(rt: &HostRuntime, store: &mut TrialStore<S>) -> io::Result<()> {
-    print!(rt; "open: ")?;
-    tell(rt, store.open(), |number| println!(rt; "trial {number}"))
+    let call = Call::Open;
+    tell(
+        rt,
+        call,
+        store.open(),
+        |number| println!(rt; "{call}: trial {number}"),
+    )
 }
 
-// Ends a trial by one of the two calls that do.
+fn undo<S: Store>(rt: &HostRuntime, store: &mut TrialStore<S>, trial: u32) -> io::Result<()> {
+    end(rt, Call::Undo { trial }, store.undo(trial))
+}
+
+fn keep<S: Store>(rt: &HostRuntime, store: &mut TrialStore<S>, trial: u32) -> io::Result<()> {
+    end(rt, Call::Keep { trial }, store.keep(trial))
+}
+
+// Tells of a call that ends trials.
 fn end<E: Into<u8> + Drop>(
     rt: &HostRuntime,
-    call: &str,
-    number: u32,
+    call: Call,
     answer: Result<usize, E>,
 ) -> io::Result<()> {
-    print!(rt; "{call} trial {number}: ")?;
-    tell(rt, answer, |left| println!(rt; "done, {left} open"))
+    tell(
+        rt,
+        call,
+        answer,
+        |left| println!(rt; "{call}: done, {left} open"),
+    )
 }
 
 // The sets of the cells, each as its ranks.
@@ -80,18 +134,18 @@ fn morning<S: Store>(rt: &HostRuntime, store: &mut TrialStore<S>) -> io::Result<
     open(rt, store)?;
     write(rt, store, 1, 4)?;
     show(rt, store)?;
-    end(rt, "undo", 1, store.undo(1))?;
+    undo(rt, store, 1)?;
     show(rt, store)
 }
 
 fn afternoon<S: Store>(rt: &HostRuntime, store: &mut TrialStore<S>) -> io::Result<()> {
-    end(rt, "keep", 2, store.keep(2))?;
+    keep(rt, store, 2)?;
     open(rt, store)?;
     write(rt, store, 1, 6)?;
-    end(rt, "keep", 3, store.keep(3))?;
+    keep(rt, store, 3)?;
     write(rt, store, 7, 1)?;
     write(rt, store, 0, 8)?;
-    end(rt, "undo", 3, store.undo(3))?;
+    undo(rt, store, 3)?;
     show(rt, store)
 }
 

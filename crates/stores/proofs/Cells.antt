@@ -17,6 +17,9 @@ when_equal a b P Q p q = go (eqb a b) (eqb-true a b) (eqb-false a b)
     go true f g = p (f refl)
     go false f g = q (g refl)
 
+pub when_zero : (q : ℕ) (P Q : Type 0) → (q ≤ 0 → P) → (0 < q → Q) → MatchBool (eqb q 0) P Q
+when_zero q P Q p r = when_equal q 0 P Q (λ e. p (omega (arith, e))) (λ ne. r (omega (arith, ne)))
+
 -- one cell more is as in ys, after it is set to what ys has there
 pub set_next : (xs ys zs : List ℕ) (i : ℕ) → i < length xs → zs ≡ set xs i (get_or ys i 0) → ((k : ℕ) → k < i → get_or xs k 0 ≡ get_or ys k 0) → (k : ℕ) → k < i + 1 → get_or zs k 0 ≡ get_or ys k 0
 set_next xs ys zs i within is same k l = ap (λ (ws : List ℕ). get_or ws k 0) is ∙ go (cases_eq k i)

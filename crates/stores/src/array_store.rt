@@ -11,9 +11,9 @@ use std::alloc::AllocError;
 
 // A plain array with its count, and no vector of fixed room, since a store is `Copy`.
 pub struct ArrayStore<C: Cell> {
-    cells: usize,
+    pub(crate) cells: usize,
     width: usize,
-    kept: [C; CELLS],
+    pub(crate) kept: [C; CELLS],
     ghost long: { length kept ≡ 64 },
     ghost few: { cells ≤ 64 },
     ghost narrow: { width ≤ 48 },

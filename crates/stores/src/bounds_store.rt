@@ -1,14 +1,31 @@
 // A store that keeps the lowest and the highest rank of each cell, and so can hold exactly the sets without a gap.
-ghost use Rattle.std.specs.Prelude.{◌≡◌, ℕ, ◌<◌, ◌≤◌, MatchBool};
+ghost use Rattle.std.specs.Prelude.{◌≡◌, ℕ, ◌<◌, ◌≤◌, length, map, MatchBool, MatchOption, slice_index};
 ghost use Rattle.std.proofs.Common.{arith};
 ghost use Rattle.domains.specs.Sets.{Gapless, run};
+ghost use Rattle.stores.specs.Bounds.{ByEnds};
 ghost use Rattle.domains.proofs.Ranks.{run_pos, run_gapless, in_upto, in_from, in_ones};
 
 use crate::array_store::ArrayStore;
 use crate::cell::Cell;
+use crate::store::Store;
 use domains::domain::Domain;
 
 pub type BoundsStore = ArrayStore<Bounds>;
+
+impl BoundsStore {
+    // The lowest and the highest rank of a cell, as they are kept; nothing where there is no such cell.
+    #[tactic(auto, using(crate::proofs::Spans::kept_by_ends))]
+    pub fn ends(&self, cell: usize) -> Option<(usize, usize)>
+        ensures ends { MatchOption result (length (⟦<BoundsStore as Store>⟧.cells self.now) ≤ cell) (λ e. (cell < length (⟦<BoundsStore as Store>⟧.cells self.now)) × (e.0 ≤ e.1) × (e.1 < 48) × (slice_index (⟦<BoundsStore as Store>⟧.cells self.now) cell ≡ run e.0 e.1)) }
+        ensures runs { ByEnds self.now.cells (map (λ c. c.low) self.now.kept) (map (λ c. c.high) self.now.kept) (⟦<BoundsStore as Store>⟧.cells self.now) }
+    {
+        if cell >= self.cells {
+            return None;
+        }
+        let kept = self.kept[cell];
+        Some((usize::from(kept.low), usize::from(kept.high)))
+    }
+}
 
 #[derive(Clone, Copy)]
 pub struct Bounds {

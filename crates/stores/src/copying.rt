@@ -4,14 +4,6 @@ ghost use Rattle.stores.specs.Stores.{Holdable, Savable};
 
 use crate::store::Store;
 use domains::domain::Domain;
-use std::array;
-
-// The mask of a cell; 0 where there is none, since the array is as long as a store may be and no set has the mask 0.
-fn mask_at<S: Store>(store: &S, cell: usize) -> u64
-    ensures { cell < length (S.cells store.now) → result ≡ slice_index (S.cells store.now) cell }
-{
-    store.read(cell).map_or(0, |part| part.mask())
-}
 
 // The mask of each cell; past the cells, 0.
 pub fn snapshot<S: Store>(store: &S) -> [u64; 64]
@@ -19,7 +11,14 @@ pub fn snapshot<S: Store>(store: &S) -> [u64; 64]
     ensures same { take (length (S.cells store.now)) result ≡ S.cells store.now }
     ensures savable { Savable S.holds (S.width store.now) (length (S.cells store.now)) result }
 {
-    array::from_fn(|cell| mask_at(store, cell))
+    let mut masks = [0; 64];
+    let cells = store.size().cells;
+    for (cell, mask) in masks[..cells].iter_mut().enumerate() {
+        if let Some(part) = store.read(cell) {
+            *mask = part.mask();
+        }
+    }
+    masks
 }
 
 // Writes a mask back to a cell, where the store can hold it.
