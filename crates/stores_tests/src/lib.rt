@@ -77,12 +77,23 @@ mod tests {
         assert_eq!(rt; bounds.read(0), Domain::new(7));
         assert_eq!(rt; bounds.read(1), Domain::new(6));
         assert_eq!(rt; bounds.read(2), Domain::new(7));
+        assert_eq!(rt; bounds.ends(1), Some((1, 2)));
+        assert_eq!(rt; bounds.ends(3), None);
         Ok(())
+    }
+
+    // A type that holds a store with trials asks for no bound.
+    #[derive(Drop)]
+    struct Desk<S> {
+        store: TrialStore<S>,
     }
 
     #[test]
     fn trials_over_trials(rt: HostRuntime) -> Result<(), Fail> {
-        let mut store = TrialStore::new(TrialStore::new(BitStore::new()));
+        let mut desk = Desk {
+            store: TrialStore::new(TrialStore::new(BitStore::new())),
+        };
+        let store = &mut desk.store;
         assert_eq!(rt; store.lay_out(2, 4), Ok(()));
         let first = store.open();
         assert!(rt; first.is_ok());
