@@ -20,7 +20,7 @@ module _ (p q : ℕ → Bool) (turned : (b : ℕ) → q b ≡ not (p b)) (xs : L
       let there = cond_some (ltb (position_or_len p xs) (length xs)) (position_or_len p xs) i at in
       (sym (front_is ∙ there.1), omega (arith, front_is, ltb-true _ _ there.0))
 
-  front_all : position p xs ≡ None → prefix_len q xs ≡ length xs
+  pub front_all : position p xs ≡ None → prefix_len q xs ≡ length xs
   front_all at =
       by_test (ltb (position_or_len p xs) (length xs))
       (λ t. absurd (none-some (position_or_len p xs) (sym at ∙ rw t refl)))
@@ -43,7 +43,7 @@ last_line (c ∷ cs) all b =
     (λ t. absurd (omega (arith, rw t at all)))
     (λ f. rw f (ap (on_first b) (last_line cs (omega (arith, rw f at all)) c)))
 
-only_line : (xs : List ℕ) → 0 < length xs → prefix_len in_line xs ≡ length xs → lines_of xs ≡ xs ∷ []
+pub only_line : (xs : List ℕ) → 0 < length xs → prefix_len in_line xs ≡ length xs → lines_of xs ≡ xs ∷ []
 only_line [] some all = absurd (omega arith)
 only_line (b ∷ bs) some all =
     by_test (eqb b 10)
@@ -51,7 +51,7 @@ only_line (b ∷ bs) some all =
     (λ f. rw f (last_line bs (omega (arith, rw f at all)) b))
 
 -- a line feed ends the first line
-first_line : (xs : List ℕ) → prefix_len in_line xs < length xs → lines_of xs ≡ take (prefix_len in_line xs) xs ∷ lines_of (drop (prefix_len in_line xs + 1) xs)
+pub first_line : (xs : List ℕ) → prefix_len in_line xs < length xs → lines_of xs ≡ take (prefix_len in_line xs) xs ∷ lines_of (drop (prefix_len in_line xs + 1) xs)
 first_line [] l = absurd (omega arith)
 first_line (b ∷ bs) l =
     by_test (eqb b 10)
@@ -89,7 +89,7 @@ run (b ∷ bs) begun =
     (λ f. rw (leading_yes in_word b bs (ap not f))
     (byte_goes_on begun b bs f ∙ run bs (begun ++ (b ∷ [])) ∙ ap (λ (ys : List ℕ). ended ys ++ words_of (drop (prefix_len in_word bs) bs)) (append_assoc begun (b ∷ []) (take (prefix_len in_word bs) bs))))
 
-no_word : (xs : List ℕ) → prefix_len is_space xs ≡ length xs → words_of xs ≡ []
+pub no_word : (xs : List ℕ) → prefix_len is_space xs ≡ length xs → words_of xs ≡ []
 no_word [] all = refl
 no_word (b ∷ bs) all =
     by_test (is_space b)
@@ -97,15 +97,16 @@ no_word (b ∷ bs) all =
     (λ f. absurd (omega (arith, all, leading_no is_space b bs f)))
 
 -- what follows the spaces in front
-abbrev begins : List ℕ → List ℕ
+abbrev pub begins : List ℕ → List ℕ
 begins xs = drop (prefix_len is_space xs) xs
 
-first_word : (xs : List ℕ) → prefix_len is_space xs < length xs → words_of xs ≡ take (prefix_len in_word (begins xs)) (begins xs) ∷ words_of (drop (prefix_len in_word (begins xs)) (begins xs))
+pub first_word : (xs : List ℕ) → prefix_len is_space xs < length xs → (words_of xs ≡ take (prefix_len in_word (begins xs)) (begins xs) ∷ words_of (drop (prefix_len in_word (begins xs)) (begins xs))) × (0 < prefix_len in_word (begins xs))
 first_word [] l = absurd (omega arith)
 first_word (b ∷ bs) l =
     by_test (is_space b)
-    (λ t. rw (leading_yes is_space b bs t) (space_ends [] b bs t ∙ first_word bs (omega (arith, l, leading_yes is_space b bs t))))
-    (λ f. rw (leading_no is_space b bs f) (rw (leading_yes in_word b bs (ap not f)) (byte_goes_on [] b bs f ∙ run bs (b ∷ []))))
+    (λ t. rw (leading_yes is_space b bs t)
+    (let rest = first_word bs (omega (arith, l, leading_yes is_space b bs t)) in (space_ends [] b bs t ∙ rest.0, rest.1)))
+    (λ f. rw (leading_no is_space b bs f) (rw (leading_yes in_word b bs (ap not f)) (byte_goes_on [] b bs f ∙ run bs (b ∷ []), omega arith)))
 
 -- the same, of the parts as code cuts them
 part_to_end : (xs : List ℕ) (i : ℕ) → take (length xs - i) (drop i xs) ≡ drop i xs
@@ -139,4 +140,4 @@ word_cut xs word rest i at w r =
     let found = front_found (λ b. not (eqb b 32)) is_space (λ b. by_test (eqb b 32) (λ t. rw t refl) (λ f. rw f refl)) xs i at in
     let begun : take (length xs - i) (drop i xs) ≡ begins xs = part_to_end xs i ∙ ap (λ n. drop n xs) found.0 in
     let end = front_or_all is_space in_word (λ b. refl) (begins xs) in
-    rw (w, r, begun, end) (first_word xs found.1)
+    rw (w, r, begun, end) (first_word xs found.1).0

@@ -23,11 +23,12 @@ fn counts_words(heap: Global, left: usize, right: usize) -> Result<String, Alloc
     format!(in heap; "the left load holds {left}, the right load holds {right}")
 }
 
-// Says at which grade two loads differ, and how: one text, of what is `Display`.
+// Says at which grade two loads differ, and how: one text of four words.
 fn tally_words<G: Entry>(heap: Global, tally: Tally<'_, G>) -> Result<String, AllocError>
     ensures { IfOk result (λ s. string_bytes s ≡ decided_words G.spelt tally.entry.grade.now tally.entry.left tally.entry.right) }
 {
     let Tally { grade, left, right } = tally;
+    let grade = grade.spell(heap)?;
     let word = weight_word(left, right);
     let counts = counts_words(heap, left, right)?;
     format!(in heap; "{word} at {grade}: {counts}")

@@ -75,7 +75,7 @@ impl<'a, G> Held<'a, G> {
 fn is_below<G: Grade>(x: &G, limit: Option<&G>) -> bool
     ensures { result ≡ below G.cmp (seen limit.entry) x.now }
 {
-    limit.is_none_or(|top| x < top)
+    limit.is_none_or(|top| x.compare(top).is_lt())
 }
 
 // The top so far with one more member `x`: a higher one takes its place.
@@ -86,7 +86,7 @@ fn raised<'a, G: Grade>(top: Option<Held<'a, G>>, x: &'a G) -> Held<'a, G>
     let Some(held) = top else {
         return Held { grade: x, count: 1 };
     };
-    match x.cmp(held.grade) {
+    match x.compare(held.grade) {
         Ordering::Less => held,
         Ordering::Equal => Held {
             count: held.count + 1,
@@ -114,7 +114,7 @@ fn top_below<'a, G: Grade>(limit: Option<&G>, load: &'a [G]) -> Option<Held<'a, 
 fn higher_of<'a, G: Grade>(left: Held<'a, G>, right: Held<'a, G>) -> Tally<'a, G>
     ensures { HigherOf G.cmp left.entry right.entry result }
 {
-    match left.grade.cmp(right.grade) {
+    match left.grade.compare(right.grade) {
         Ordering::Less => right.on_right(),
         Ordering::Equal => Tally {
             grade: left.grade,
@@ -207,7 +207,7 @@ pub fn not_heavier<G: Grade>(left: &[G], right: &[G]) -> bool
 fn weigh_replaced<G: Grade>(new: &G, old: &G) -> Weight
     ensures { Replaced G.cmp new.now old.now result }
 {
-    new.cmp(old).into()
+    new.compare(old).into()
 }
 
 // The member that was taken out of a load, and what the load now is against what it was.

@@ -5,8 +5,8 @@ use Rattle.loads.proofs.weighing.compare_loads.Given as goal
 
 abbrev pub invariant-loop-tally : goal.invariant-loop-tally
 invariant-loop-tally g l =
-    Agreed g.G.Ord.cmp (seen l.limit) l.left l.right
-    × (l.agreed ≡ grades_passed g.G.Ord.cmp (seen l.limit) l.left)
+    Agreed g.G.Grade.cmp (seen l.limit) l.left l.right
+    × (l.agreed ≡ grades_passed g.G.Grade.cmp (seen l.limit) l.left)
 
 abbrev pub decreases-loop-tally : goal.decreases-loop-tally
-decreases-loop-tally g l = under g.G.Ord.cmp (seen l.limit) l.left
+decreases-loop-tally g l = under g.G.Grade.cmp (seen l.limit) l.left

@@ -14,7 +14,7 @@ raised-requires g c =
 
 pub loop-x-preserved : goal.loop-x-preserved
 loop-x-preserved g c =
-    let cmp = g.G.Ord.cmp in
+    let cmp = g.G.Grade.cmp in
     let o = g.met.G.Grade.order in
     let limit = seen c.args.limit in
     let load = c.args.load.now in

@@ -3,4 +3,4 @@ use Rattle.loads.specs.Weighing.{seen, Top}
 use Rattle.loads.proofs.weighing.top_below.Given as goal
 
 abbrev pub invariant-loop-x : goal.invariant-loop-x
-invariant-loop-x g l = Top g.G.Ord.cmp (seen l.limit) (take l.x-index l.load) l.top
+invariant-loop-x g l = Top g.G.Grade.cmp (seen l.limit) (take l.x-index l.load) l.top
