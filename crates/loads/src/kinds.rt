@@ -66,10 +66,10 @@ impl Ord for Hand {
 
     fn cmp(&self, other: &Hand) -> Ordering {
         // Tests of the class, which most often decides: with `then` or `then_with` weighing hands took twice the instructions.
-        if self.class < other.class {
-            Ordering::Less
-        } else if other.class < self.class {
+        if other.class < self.class {
             Ordering::Greater
+        } else if self.class < other.class {
+            Ordering::Less
         } else {
             other.year.cmp(&self.year)
         }
