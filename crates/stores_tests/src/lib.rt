@@ -10,7 +10,8 @@ mod tests {
     use stores::faults::{LayOutFault, WriteFault};
     use stores::store::Store;
     use trials::faults::{CallFault, TrialFault};
-    use trials::rehearsal::{CallAnswer, TrialCall, answer};
+    use trials::rehearsal::{CallAnswer, TrialCall, answer, rehearse};
+    use trials::sound_store::{self, SoundTrialStore};
     use trials::trial_store::TrialStore;
 
     fn set(mask: u64) -> Result<Domain, Fail> {
@@ -139,6 +140,39 @@ mod tests {
             Ok(ended)
         );
         assert_eq!(rt; store.read(0), Domain::full(4));
+        Ok(())
+    }
+
+    // Any call can be made on the store within, and its type still says that it is sound.
+    #[tactic(auto, using(trials::proofs::SoundStores::still_sound))]
+    #[test]
+    fn calls_on_a_sound_store(rt: HostRuntime) -> Result<(), Fail> {
+        let mut desk = SoundTrialStore::new(BoundsStore::new());
+        assert_eq!(rt; desk.store.lay_out(2, 4), Ok(()));
+        let write = TrialCall::Write {
+            cell: 1,
+            part: set(6)?,
+        };
+        let undo = TrialCall::Undo { number: 1 };
+        assert_eq!(rt;
+            sound_store::answer(&mut desk, TrialCall::Open),
+            Ok(CallAnswer::Opened { number: 1 })
+        );
+        assert_eq!(rt;
+            sound_store::answer(&mut desk, write),
+            Ok(CallAnswer::Written)
+        );
+        assert_eq!(rt; desk.store.read(1), Domain::new(6));
+        assert_eq!(rt; rehearse(&mut desk.store, &[write]), Ok(1));
+        assert_eq!(rt;
+            sound_store::answer(&mut desk, undo),
+            Ok(CallAnswer::Ended { left: 0 })
+        );
+        assert_eq!(rt; desk.store.read(1), Domain::full(4));
+        assert_eq!(rt;
+            sound_store::answer(&mut desk, undo),
+            Err(CallFault::Trial(TrialFault::NotOpen))
+        );
         Ok(())
     }
 }

@@ -5,5 +5,6 @@ pub mod faults;
 pub mod probing;
 pub mod rehearsal;
 pub mod saved;
+pub mod sound_store;
 pub mod table;
 pub mod trial_store;

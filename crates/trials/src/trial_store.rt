@@ -8,8 +8,8 @@ use stores::faults::{LayOutFault, WriteFault};
 use stores::store::{Size, Store};
 
 // What is saved for each open trial can be written back to the store below (`IsSound`): a new one is sound, and each call leaves it so,
-// since only a lay out changes the cells' number or the width, and it ends the trials. No type says it: a ghost field would have to name
-// the bound, and ask each type that holds a store with trials for it.
+// since only a lay out changes the cells' number or the width, and it ends the trials. This type does not say it: a ghost field would have
+// to name the bound, and ask each type that holds a store with trials for it. `SoundTrialStore` says it.
 #[derive(Drop)]
 pub struct TrialStore<S> {
     below: S,
