@@ -8,7 +8,7 @@ mod tests {
     use stores::bit_store::BitStore;
     use stores::bounds_store::BoundsStore;
     use stores::faults::{LayOutFault, WriteFault};
-    use stores::store::Store;
+    use stores::store::{Size, Store};
     use trials::faults::{CallFault, TrialFault};
     use trials::rehearsal::{CallAnswer, TrialCall, answer, rehearse};
     use trials::sound_store::{self, SoundTrialStore};
@@ -143,17 +143,19 @@ mod tests {
         Ok(())
     }
 
-    // Any call can be made on the store within, and its type still says that it is sound.
+    // A call can be made on the store within too, and the type still says that it is sound.
     #[tactic(auto, using(trials::proofs::SoundStores::still_sound))]
     #[test]
     fn calls_on_a_sound_store(rt: HostRuntime) -> Result<(), Fail> {
         let mut desk = SoundTrialStore::new(BoundsStore::new());
-        assert_eq!(rt; desk.store.lay_out(2, 4), Ok(()));
+        assert_eq!(rt; desk.lay_out(2, 4), Ok(()));
         let write = TrialCall::Write {
             cell: 1,
             part: set(6)?,
         };
         let undo = TrialCall::Undo { number: 1 };
+        assert_eq!(rt; desk.write(1, set(9)?), Err(WriteFault::NotHeld));
+        assert_eq!(rt; desk.size(), Size { cells: 2, width: 4 });
         assert_eq!(rt;
             sound_store::answer(&mut desk, TrialCall::Open),
             Ok(CallAnswer::Opened { number: 1 })
@@ -162,13 +164,13 @@ mod tests {
             sound_store::answer(&mut desk, write),
             Ok(CallAnswer::Written)
         );
-        assert_eq!(rt; desk.store.read(1), Domain::new(6));
+        assert_eq!(rt; desk.read(1), Domain::new(6));
         assert_eq!(rt; rehearse(&mut desk.store, &[write]), Ok(1));
         assert_eq!(rt;
             sound_store::answer(&mut desk, undo),
             Ok(CallAnswer::Ended { left: 0 })
         );
-        assert_eq!(rt; desk.store.read(1), Domain::full(4));
+        assert_eq!(rt; desk.read(1), Domain::full(4));
         assert_eq!(rt;
             sound_store::answer(&mut desk, undo),
             Err(CallFault::Trial(TrialFault::NotOpen))

@@ -6,9 +6,11 @@ ghost use Rattle.trials.specs.SoundStores.{Answered};
 use crate::faults::CallFault;
 use crate::rehearsal::{self, CallAnswer, TrialCall};
 use crate::trial_store::TrialStore;
-use stores::store::Store;
+use domains::domain::Domain;
+use stores::faults::{LayOutFault, WriteFault};
+use stores::store::{Size, Store};
 
-// Any call can be made on `store`: each leaves it sound.
+// Calls of `TrialStore`'s own can be made on `store`, and leave it sound; code over any store is given the whole.
 #[derive(Drop)]
 pub struct SoundTrialStore<S: Store> {
     pub store: TrialStore<S>,
@@ -23,6 +25,54 @@ impl<S: Store> SoundTrialStore<S> {
         SoundTrialStore {
             store: TrialStore::new(below),
         }
+    }
+}
+
+// A store as the one within is.
+impl<S: Store> Store for SoundTrialStore<S> {
+    ghost use Rattle.std.specs.Prelude.{◌≡◌, [], MatchResult};
+    ghost use Rattle.stores.specs.Stores.{Sized, LaidOut};
+    ghost use Rattle.trials.specs.TrialStores.{open_trials, Rests};
+    ghost use Rattle.std.proofs.Common.{refl, ◌∙◌};
+
+    ghost cells = { λ s. S.cells s.store.below };
+
+    ghost width = { λ s. S.width s.store.below };
+
+    ghost holds = { S.holds };
+
+    ghost stays = { λ s t. S.stays s.store.below t.store.below × Rests S.Store s.store t.store };
+
+    ghost laws = { let laws = S.laws in
+        record {
+          formed = λ s. laws.formed s.store.below;
+          full = laws.full;
+          front = laws.front;
+          rear = laws.rear;
+          same = λ s. (laws.same s.store.below, record { trials = refl; granted = refl; sound = λ h. h });
+          then = λ s t u p q. (laws.then s.store.below t.store.below u.store.below p.0 q.0, record { trials = q.1.trials ∙ p.1.trials; granted = q.1.granted ∙ p.1.granted; sound = λ h. q.1.sound (p.1.sound h) });
+        } };
+
+    #[tactic(auto, using(crate::proofs::SoundStores::still_sound))]
+    fn lay_out(&mut self, n: usize, d: usize) -> Result<(), LayOutFault>
+        ensures outcome { MatchResult result (λ _. LaidOut n d (S.cells self.new.store.below) (S.width self.new.store.below)) (λ _. (Sized n d → ⊥) × (self.new ≡ self.old)) }
+        ensures ended { MatchResult result (λ _. open_trials S.Store self.new.store ≡ []) (λ _. open_trials S.Store self.new.store ≡ open_trials S.Store self.old.store) }
+        ensures granted { self.new.store.table.granted ≡ self.old.store.table.granted }
+    {
+        self.store.lay_out(n, d)
+    }
+
+    fn size(&self) -> Size {
+        self.store.size()
+    }
+
+    fn read(&self, cell: usize) -> Option<Domain> {
+        self.store.read(cell)
+    }
+
+    #[tactic(auto, using(crate::proofs::SoundStores::still_sound))]
+    fn write(&mut self, cell: usize, part: Domain) -> Result<(), WriteFault> {
+        self.store.write(cell, part)
     }
 }
 
