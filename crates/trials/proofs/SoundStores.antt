@@ -18,7 +18,7 @@ use Rattle.trials.specs.declared.rehearsal.TrialCall.{TrialCall}
 use Rattle.trials.specs.declared.rehearsal.TrialCall.TheVariants.{Write, Open, Undo, Keep}
 
 module _ {S : Type 0} (m : Ghosts S) where
-  -- what is said of a sound store is said of it
+  -- what holds where a store is sound holds of one whose type says so
   pub sound_masks : (n : ℕ) (s t : TrialStore S) → ∥ IsSound m s ∥₁ → (u : undone_where_sound m n s t) → m.cells t.below ≡ u.that.masks
   sound_masks n s t sound u = ∥∥₁_elim sound (Coded-set (coded_list coded_ℕ) (m.cells t.below) u.that.masks) u.back
 
@@ -31,7 +31,7 @@ module _ {S : Type 0} (m : Ghosts S) where
   pub sound_closed : (n : ℕ) (x : Saved) (s t : TrialStore S) → ∥ IsSound m s ∥₁ → closed_where_sound m n x s t → Closed m n x s t
   sound_closed n x s t sound c = record { closed = c; can = ∥∥₁_map sound c.can }
 
-  -- each call leaves it sound
+  -- what keeps a store sound keeps it so where its type says it
   pub still_sound : (s t : TrialStore S) → (IsSound m s → IsSound m t) → ∥ IsSound m s ∥₁ → ∥ IsSound m t ∥₁
   still_sound s t f h = ∥∥₁_map h f
 
@@ -50,13 +50,13 @@ module _ {S : Type 0} (m : Ghosts S) where
   pub same_sound : (s : SoundTrialStore S m) (u : TrialStore S) (h : ∥ IsSound m u ∥₁) → u ≡ s.store → holding u h ≡ s
   same_sound s u h p = subst (λ (x : TrialStore S). (k : ∥ IsSound m x ∥₁) → holding u h ≡ holding x k) p (λ k. ap (holding u) (∥∥₁_prop h k)) s.sound
 
-  -- where a refusal leaves the store with trials, it leaves all
+  -- where a refusal leaves the store with trials as it was, it leaves the whole so
   module _ (s : SoundTrialStore S m) (u : TrialStore S) (h : ∥ IsSound m u ∥₁) where
     pub whole : {A F : Type 0} (P : A → Type 0) (Q : F → Type 0) (r : Result A F) → MatchResult r P (λ e. Q e × (u ≡ s.store)) → MatchResult r P (λ e. Q e × (holding u h ≡ s))
     whole P Q (Ok a) o = o
     whole P Q (Err e) o = (o.0, same_sound s u h o.1)
 
-  -- a refused call leaves all as it was
+  -- a refused call leaves the whole as it was
   refusal : {A F : Type 0} (f : A → CallAnswer) (g : F → CallFault) (P : A → Type 0) (Q : F → Type 0) (X Y : Type 0) → (X → Y) → (w : Result A F) (r : Result CallAnswer CallFault)
       → r ≡ told f g w → MatchResult w P (λ e. Q e × X) → OnErr r Y
   refusal f g P Q X Y k (Ok a) r q h = subst (λ (v : Result CallAnswer CallFault). OnErr v Y) (sym q) tt
