@@ -33,7 +33,7 @@ impl<S: Store> Store for SoundTrialStore<S> {
     ghost use Rattle.std.specs.Prelude.{◌≡◌, [], MatchResult};
     ghost use Rattle.stores.specs.Stores.{Sized, LaidOut};
     ghost use Rattle.trials.specs.TrialStores.{open_trials, Rests};
-    ghost use Rattle.std.proofs.Common.{refl, ◌∙◌};
+    ghost use Rattle.std.proofs.Common.{rules};
 
     ghost cells = { λ s. S.cells s.store.below };
 
@@ -43,15 +43,7 @@ impl<S: Store> Store for SoundTrialStore<S> {
 
     ghost stays = { λ s t. S.stays s.store.below t.store.below × Rests S.Store s.store t.store };
 
-    ghost laws = { let laws = S.laws in
-        record {
-          formed = λ s. laws.formed s.store.below;
-          full = laws.full;
-          front = laws.front;
-          rear = laws.rear;
-          same = λ s. (laws.same s.store.below, record { trials = refl; granted = refl; sound = λ h. h });
-          then = λ s t u p q. (laws.then s.store.below t.store.below u.store.below p.0 q.0, record { trials = q.1.trials ∙ p.1.trials; granted = q.1.granted ∙ p.1.granted; sound = λ h. q.1.sound (p.1.sound h) });
-        } };
+    ghost laws = { Prim.search rules };
 
     #[tactic(auto, using(crate::proofs::SoundStores::still_sound))]
     fn lay_out(&mut self, n: usize, d: usize) -> Result<(), LayOutFault>
